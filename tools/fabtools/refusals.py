@@ -10,6 +10,7 @@ REFUSALS = [
     ("routes refused nomap", ("routes",), "nomap", "no map was made, or the last one that wasn't refused isn't complete", "map again, deeper or with more tries"),
     ("install refused noroutes", ("install",), "noroutes", "no routes were computed", "`routes`, after a complete map"),
     ("install refused busy", ("install",), "busy", "a channel holds a packet, as one that a `step` left there", "let it settle: `settle`"),
+    ("install refused changed", ("install",), "changed", "a cable was pulled or plugged since the map of the last routes began: no line does that yet", "map, then `routes`, again"),
     ("install refused installed", ("install",), "installed", "other routes are installed, and a run installs one set", "send the same set again, or begin another run"),
     ("install refused epochs", ("install",), "epochs", "the epoch of the installed routes is the last: no run gets there", "begin another run"),
     ("open H P refused already", ("open",), "already", "the port is open", "`close` it first"),

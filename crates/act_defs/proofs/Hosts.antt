@@ -40,7 +40,7 @@ change-nodes (Change.links k) = NodesChange.same refl
 change-nodes (Change.drops packet why d e f) = NodesChange.same refl
 change-nodes (Change.arrives packet h d e f g) = NodesChange.one (NodeChange.hears packet h d e) refl
 change-nodes (Change.host k) = NodesChange.one (NodeChange.itself k) refl
-change-nodes {w = w} (Change.injects {h = h} c out d e f g) = NodesChange.one (NodeChange.sends c out d e) (injection-nodes w h c out)
+change-nodes {w = w} (Change.injects {h = h} c out d e f g o) = NodesChange.one (NodeChange.sends c out d e) (injection-nodes w h c out)
 change-nodes (Change.calls k) = NodesChange.one (NodeChange.calls k) refl
 
 pub nodes_view : (w : WorldState) (a : Act) → NodesChange w a (acted w a)

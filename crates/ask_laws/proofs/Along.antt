@@ -56,9 +56,9 @@ tries-of R k is_found nothing one each (suc n) w =
     let mid : WorldState = (one w).world in
     tries-by is_found nothing one n w (λ t. R w t.world) (λ e. each w) (λ e. k.both w mid (tries_of is_found nothing one n mid).world (each w) (tries-of R k is_found nothing one each n mid))
 
-pub ask-of : (R : WorldState → WorldState → Type 0) → Asks R → (w : WorldState) (mapper tries : ℕ) (walk : List ℤ) → R w (ask mapper tries walk w).world
+pub ask-of : (R : WorldState → WorldState → Type 0) → Asks R → (w : WorldState) (made mapper tries : ℕ) (walk : List ℤ) → R w (ask made mapper tries walk w).world
 unfolding log.ask
-ask-of R k w mapper tries walk = by hosts.found
+ask-of R k w made mapper tries walk = by hosts.found
   where
     start : WorldState
     start = all_given_up w
@@ -69,20 +69,22 @@ ask-of R k w mapper tries walk = by hosts.found
     first : R w hosts.world
     first = k.both w start hosts.world (given_up-of R k w (addresses w)) (tries-of R k is_some None (log.host_try mapper walk) (host_try-of R k mapper walk) tries start)
 
-    by : (o : Option ℕ) → R w (asked_hosts mapper walk tries hosts.harmed hosts.world o).world
+    by : (o : Option ℕ) → R w (asked_hosts made mapper walk tries hosts.harmed hosts.world o).world
     by (Some h) = first
     by None = k.both w hosts.world (loop_tries mapper walk tries hosts.world).world first (tries-of R k (λ b. b) false (log.loop_try mapper walk) (loop_try-of R k mapper walk) tries hosts.world)
 
 -- events in a row
 pub ask-events : AskIsEvents
-ask-events w mapper tries walk = ask-row {Q = IsOfAsk} (record { advance = λ c. tt; inject = λ h. tt; give_up = λ h. tt }) (λ h walk looped. tt) mapper tries walk w
+ask-events w made mapper tries walk = ask-row {Q = IsOfAsk} (record { advance = λ c. tt; inject = λ h. tt; give_up = λ h. tt }) (λ h walk looped. tt) made mapper tries walk w
 
 -- idle links
 bare-again : (l s : LinkState) → l ≡ bare s → IsBare l
 bare-again l s e = subst IsBare (sym e) refl
 
 flight-bare : (w : WorldState) (h c : ℕ) (out : Outgoing) (s : Sent) → Flight w h c out s → IsBare s.world.links
-flight-bare w h c out s (Flight.lands u v m o k e g l) = bare-again s.world.links v.links l.links
+flight-bare w h c out s (Flight.lands u v m o k same e g l) = bare-again s.world.links v.links l.links
+flight-bare w h c out s (Flight.cut_off u v o k more e b gone heard same) = subst (λ t. IsBare t.links) (sym same) b
+flight-bare w h c out s (Flight.cut_on u v m o k more e stays g l) = bare-again s.world.links v.links l.links
 flight-bare w h c out s (Flight.lost u v o k e p b heard same) = subst (λ t. IsBare t.links) (sym same) b
 flight-bare w h c out s (Flight.marred u v wire m o k e p d g l) = bare-again s.world.links v.links l.links
 
@@ -115,7 +117,7 @@ asks-bare = record {
 }
 
 pub ask-idle : AskEndsIdle
-ask-idle w mapper tries walk is idle =
-    let l : LinkState = (ask mapper tries walk w).world.links in
-    let e : IsBare l = ask-of (λ w v. IsBare w.links → IsBare v.links) asks-bare w mapper tries walk (idle-bare w.links is.links.slots idle) in
+ask-idle w made mapper tries walk is idle =
+    let l : LinkState = (ask made mapper tries walk w).world.links in
+    let e : IsBare l = ask-of (λ w v. IsBare w.links → IsBare v.links) asks-bare w made mapper tries walk (idle-bare w.links is.links.slots idle) in
     ap is_idle (is-bare l e) ∙ bare-idle l

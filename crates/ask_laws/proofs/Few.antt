@@ -32,7 +32,7 @@ change-count (Change.links k) = omega arith
 change-count (Change.drops packet why d e f) = omega arith
 change-count (Change.arrives packet h d e f k) = omega arith
 change-count (Change.host k) = omega arith
-change-count {w = w} (Change.injects {h = h} c out d e f g) = let n = struck-count w h c out in omega (arith, n)
+change-count {w = w} (Change.injects {h = h} c out d e f g o) = let n = struck-count w h c out in omega (arith, n)
 change-count (Change.calls k) = omega arith
 
 step-count : (w : WorldState) (e : Event) → (step w e).1.injected ≤ w.injected + most e
@@ -96,7 +96,7 @@ tries-count k is_found nothing one each (suc n) w =
 
 pub ask-few : AskInjectsFew
 unfolding log.ask
-ask-few w mapper tries walk = by hosts.found
+ask-few w made mapper tries walk = by hosts.found
   where
     start : WorldState
     start = all_given_up w
@@ -110,6 +110,6 @@ ask-few w mapper tries walk = by hosts.found
         let b = tries-count 2 is_some None (log.host_try mapper walk) (host_try-count mapper walk) tries start in
         omega (arith, a, b)
 
-    by : (o : Option ℕ) → (asked_hosts mapper walk tries hosts.harmed hosts.world o).world.injected ≤ w.injected + 3 * tries
+    by : (o : Option ℕ) → (asked_hosts made mapper walk tries hosts.harmed hosts.world o).world.injected ≤ w.injected + 3 * tries
     by (Some h) = omega (arith, first)
     by None = let a = tries-count 1 (λ b. b) false (log.loop_try mapper walk) (loop_try-count mapper walk) tries hosts.world in omega (arith, first, a)

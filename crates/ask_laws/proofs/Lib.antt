@@ -6,6 +6,7 @@ pub mod Along
 pub mod Few
 pub mod Back
 pub mod Comes
+pub mod Stood
 pub mod Parcels
 pub mod Ready
 pub mod Tries

@@ -33,12 +33,12 @@ bare s = record s { channels = replicate (life_channels s.cables) None }
 abbrev pub with_lone : LinkState → ℕ → Held → LinkState
 with_lone s c held = with_packet (bare s) c (Some held)
 
-set-twice : {X : Type 0} (xs : List X) (c : ℕ) (a b : X) → set (set xs c a) c b ≡ set xs c b
+pub set-twice : {X : Type 0} (xs : List X) (c : ℕ) (a b : X) → set (set xs c a) c b ≡ set xs c b
 set-twice [] c a b = refl
 set-twice (x ∷ xs) zero a b = refl
 set-twice (x ∷ xs) (suc c) a b = ap (λ l. x ∷ l) (set-twice xs c a b)
 
-set-empty : {X : Type 0} (k c : ℕ) (x : X) → set (replicate k x) c x ≡ replicate k x
+pub set-empty : {X : Type 0} (k c : ℕ) (x : X) → set (replicate k x) c x ≡ replicate k x
 set-empty zero c x = refl
 set-empty (suc k) zero x = refl
 set-empty (suc k) (suc c) x = ap (λ l. x ∷ l) (set-empty k c x)

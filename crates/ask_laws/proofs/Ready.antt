@@ -7,10 +7,13 @@ use Rattle.std.proofs.lemmas.Bool.{cases_lt}
 use Rattle.std.proofs.lemmas.Bool.Decides.{Decides-eqb}
 use Rattle.net_defs.specs.Network.{Network}
 use Rattle.net_defs.proofs.Growing.{no_some}
+use Rattle.cable_history.specs.History.{fabric_at}
+use Rattle.cable_history.specs.Later.{OnlyPulled}
+use Rattle.cable_history.proofs.Later.{pulled-on}
 use Rattle.world_defs.specs.declared.event.Event.TheVariants.{Ask, GiveUp}
 use Rattle.world_defs.specs.declared.effect.Effect.{Effect}
 use Rattle.world_defs.specs.Node.{NodeState, StagedProbe, Outgoing, Probe, Reply, StagedReply, new_node, has_staged, given_up, to_send, after_sending}
-use Rattle.world_defs.specs.World.{WorldState, fabric_of, host_count, node_at, with_node, addresses}
+use Rattle.world_defs.specs.World.{WorldState, host_count, node_at, with_node, addresses}
 use Rattle.world_defs.specs.Step.{asked, gave_up, step, after_all}
 use Rattle.world_defs.specs.Asking.{all_given_up}
 use Rattle.world_laws.proofs.Lists.{at-set}
@@ -18,6 +21,7 @@ use Rattle.world_defs.specs.EightBits.{HasByteFaults}
 use Rattle.ask_laws.specs.Premises.{CanAsk}
 use Rattle.ask_laws.specs.Kept.{IsAskKept}
 use Rattle.ask_laws.proofs.Lone.{IsBare, idle-bare}
+use Rattle.ask_laws.proofs.Stood.{IsOver, over-pulled}
 use Rattle.ask_laws.proofs.Parcels.{SendKeeps}
 
 -- what an ask leaves of a host
@@ -31,7 +35,7 @@ same-node n = record { table = refl; lanes = refl; ports = refl }
 
 pub kept-same : (w : WorldState) → IsAskKept w w
 kept-same w = record {
-  fabric = refl;
+  pulled = OnlyPulled.still;
   hosts = refl;
   table = λ h. refl;
   lanes = λ h. refl;
@@ -54,7 +58,7 @@ kept-both u v w a b =
     let h0 = a.harmed in
     let h1 = b.harmed in
     record {
-      fabric = b.fabric ∙ a.fabric;
+      pulled = pulled-on a.pulled b.pulled;
       hosts = b.hosts ∙ a.hosts;
       table = λ h. b.table h ∙ a.table h;
       lanes = λ h. b.lanes h ∙ a.lanes h;
@@ -76,7 +80,7 @@ pub kept-node : (w : WorldState) (h : ℕ) (n : NodeState) → SameNode (node_at
 kept-node w h n k =
     let each = set-node w h n k in
     record {
-      fabric = refl;
+      pulled = OnlyPulled.still;
       hosts = length-set w.nodes h n;
       table = λ g. (each g).table;
       lanes = λ g. (each g).lanes;
@@ -112,7 +116,7 @@ kept-sent w h out t is k =
     let at = λ (g : ℕ). nodes-at w t h g n k.nodes in
     let i = k.injected in
     record {
-      fabric = k.net;
+      pulled = k.pulled;
       hosts = ap length k.nodes ∙ length-set w.nodes h n;
       table = λ g. ap (λ (x : NodeState). x.table) (at g) ∙ (each g).table;
       lanes = λ g. ap (λ (x : NodeState). x.lanes) (at g) ∙ (each g).lanes;
@@ -131,18 +135,18 @@ abbrev pub IsUnstaged : WorldState → ℕ → Type 0
 IsUnstaged w h = (node_at w h).staged ≡ None
 
 -- The world between two sends.
-pub record Ready (n : Network) (mapper : ℕ) (w : WorldState) : Type 0 where
-  pub net : fabric_of w ≡ n
+pub record Ready (n : Network) (made mapper : ℕ) (w : WorldState) : Type 0 where
+  pub over : IsOver n made w.links.cables
   pub bare : IsBare w.links
   pub hosts : host_count w ≡ length n.hosts
   pub unstaged : (h : ℕ) → h ≢ mapper → IsUnstaged w h
   pub flips : HasByteFaults w
 
 -- a probe is staged
-pub ready-staged : (n : Network) (mapper : ℕ) (w : WorldState) (walk : List ℤ) (looped : Bool) → Ready n mapper w → Ready n mapper (step w (Ask mapper walk looped)).1
+pub ready-staged : (n : Network) (made mapper : ℕ) (w : WorldState) (walk : List ℤ) (looped : Bool) → Ready n made mapper w → Ready n made mapper (step w (Ask mapper walk looped)).1
 unfolding asked
-ready-staged n mapper w walk looped r = record {
-  net = r.net;
+ready-staged n made mapper w walk looped r = record {
+  over = r.over;
   bare = r.bare;
   hosts = length-set w.nodes mapper (record (node_at w mapper) { staged = Some (StagedProbe walk looped) }) ∙ r.hosts;
   unstaged = λ h other. ap (λ (x : NodeState). x.staged) (get_or-set_other w.nodes mapper h (record (node_at w mapper) { staged = Some (StagedProbe walk looped) }) (new_node 0) other) ∙ r.unstaged h other;
@@ -177,8 +181,8 @@ probe-gone : (n : NodeState) (walk : List ℤ) (looped : Bool) → (after_sendin
 unfolding after_sending
 probe-gone n walk looped = refl
 
-pub unstaged-probe : (n : Network) (mapper : ℕ) (w : WorldState) (walk : List ℤ) (looped : Bool) (t : WorldState) → Ready n mapper w → mapper < host_count w → SendKeeps w mapper (Probe walk looped) t → (h : ℕ) → IsUnstaged t h
-unstaged-probe n mapper w walk looped t r low k h = by (nat_eq h mapper) refl
+pub unstaged-probe : (n : Network) (made mapper : ℕ) (w : WorldState) (walk : List ℤ) (looped : Bool) (t : WorldState) → Ready n made mapper w → mapper < host_count w → SendKeeps w mapper (Probe walk looped) t → (h : ℕ) → IsUnstaged t h
+unstaged-probe n made mapper w walk looped t r low k h = by (nat_eq h mapper) refl
   where
     m : NodeState
     m = after_sending (node_at w mapper) (Probe walk looped)
@@ -191,9 +195,9 @@ unstaged-probe n mapper w walk looped t r low k h = by (nat_eq h mapper) refl
         let other : h ≢ mapper = λ same. true≢false (sym ((Decides-eqb h mapper).1 same) ∙ e) in
         ap (λ (x : NodeState). x.staged) (nodes-at w t mapper h m k.nodes ∙ get_or-set_other w.nodes mapper h m (new_node 0) other) ∙ r.unstaged h other
 
-pub ready-sent : (n : Network) (mapper : ℕ) (w : WorldState) (out : Outgoing) (h : ℕ) (t : WorldState) → Ready n mapper w → SendKeeps w h out t → ((g : ℕ) → IsUnstaged t g) → Ready n mapper t
-ready-sent n mapper w out h t r k none = record {
-  net = k.net ∙ r.net;
+pub ready-sent : (n : Network) (made mapper : ℕ) (w : WorldState) (out : Outgoing) (h : ℕ) (t : WorldState) → Ready n made mapper w → SendKeeps w h out t → ((g : ℕ) → IsUnstaged t g) → Ready n made mapper t
+ready-sent n made mapper w out h t r k none = record {
+  over = over-pulled n made k.pulled r.over;
   bare = k.bare;
   hosts = ap length k.nodes ∙ length-set w.nodes h (after_sending (node_at w h) out) ∙ r.hosts;
   unstaged = λ g other. none g;
@@ -297,12 +301,12 @@ kept-start w = all-kept w (addresses w)
 pub counts-start : (w : WorldState) → ((all_given_up w).injected ≡ w.injected) × ((all_given_up w).plan ≡ w.plan)
 counts-start w = let a = all-aside w (addresses w) in (a.injected, a.plan)
 
-pub ready-start : (w : WorldState) (mapper : ℕ) (walk : List ℤ) → CanAsk w mapper walk → Ready (fabric_of w) mapper (all_given_up w)
-ready-start w mapper walk can =
+pub ready-start : (made : ℕ) (w : WorldState) (mapper : ℕ) (walk : List ℤ) → CanAsk made w mapper walk → Ready (fabric_at w.links.cables made) made mapper (all_given_up w)
+ready-start made w mapper walk can =
     let k = kept-start w in
     let a = all-aside w (addresses w) in
     record {
-      net = k.fabric;
+      over = over-pulled (fabric_at w.links.cables made) made k.pulled (record { stood = can.stood; past = refl });
       bare = subst IsBare (sym a.links) (idle-bare w.links can.world.links.slots can.idle);
       hosts = k.hosts ∙ can.world.hosts;
       unstaged = λ h other. all-unstaged w h;

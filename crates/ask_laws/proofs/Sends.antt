@@ -1,17 +1,18 @@
 -- An injection into idle links, and the drain after it.
-use Rattle.std.proofs.Common.{◌≡◌, ◌≢◌, ◌<◌, ◌≤◌, ◌+◌, ℕ, Bool, true, false, ◌||◌, nat_eq, nat_le, List, [], set, Option, Some, None, is_some, refl, sym, ap, ◌∙◌, subst, arith, if◌then◌else◌}
+use Rattle.std.proofs.Common.{◌≡◌, ◌≢◌, ◌<◌, ◌≤◌, ◌+◌, ℕ, Bool, true, false, ◌||◌, nat_eq, nat_le, List, [], set, ◌⊎◌, inl, inr, Option, Some, None, is_some, refl, sym, ap, ◌∙◌, subst, arith, if◌then◌else◌}
 use Rattle.std.specs.Map.{lookup}
 use Rattle.std.proofs.lemmas.Bool.Decides.{nat_tests}
 use Rattle.net_defs.specs.Route.{host_port}
 use Rattle.packet_defs.specs.Packet.{difference}
 use Rattle.link_defs.specs.declared.moved.Moved.{Moved}
-use Rattle.cable_history.specs.Crossed.{leaving, life_channels}
+use Rattle.cable_history.specs.Crossed.{leaving, life_channels, is_standing}
+use Rattle.cable_history.proofs.Later.{pulled-later, later-kept}
 use Rattle.cable_history.proofs.ForLife.{leaving_has_its_end}
 use Rattle.link_defs.specs.Links.{Held, LinkState, packet_in, with_packet, put, is_idle}
 use Rattle.world_defs.specs.declared.effect.Effect.{Effect}
 use Rattle.world_defs.specs.declared.effect.Effect.TheVariants.{Idle, Injected}
 use Rattle.world_defs.specs.Node.{Outgoing, to_send, packet_for, after_sending}
-use Rattle.world_defs.specs.World.{WorldState, last_count, node_at}
+use Rattle.world_defs.specs.World.{WorldState, last_count, node_at, keeps_out}
 use Rattle.world_defs.specs.Step.{planned_strikes, sent_out, inject_one, inject_into, injected}
 use Rattle.world_defs.specs.Asking.{is_used_up}
 use Rattle.world_defs.specs.Logs as log
@@ -62,9 +63,12 @@ sent-out w h c out e =
       harmed = refl;
     }
 
--- What became of the packet: it went its way as it was sent; a fault took it; or a fault spoilt it, and it went some way.
+-- What became of the packet: it went its way as it was sent; a pull took its cable, or another; a fault took it; or a
+-- fault spoilt it, and it went some way.
 pub data Flight (w : WorldState) (h c : ℕ) (out : Outgoing) (s : Sent) : Type 0 where
-  lands : (u v : WorldState) (m : Moved (List ℕ)) → IsOut w h c out u → StrikeKeeps u v → v.harmed ≡ w.harmed → Goes w.links.cables c (packet_for h (w.injected + 1) out) m → Lands v m (s.effects, s.world) → Flight w h c out s
+  lands : (u v : WorldState) (m : Moved (List ℕ)) → IsOut w h c out u → StrikeKeeps u v → v.links.cables ≡ w.links.cables → v.harmed ≡ w.harmed → Goes w.links.cables c (packet_for h (w.injected + 1) out) m → Lands v m (s.effects, s.world) → Flight w h c out s
+  cut_off : (u v : WorldState) → IsOut w h c out u → StrikeKeeps u v → w.links.cables.changes < v.links.cables.changes → v.harmed ≡ w.harmed → IsBare v.links → is_standing v.links.cables c ≡ false → told s.effects ≡ [] → s.world ≡ v → Flight w h c out s
+  cut_on : (u v : WorldState) (m : Moved (List ℕ)) → IsOut w h c out u → StrikeKeeps u v → w.links.cables.changes < v.links.cables.changes → v.harmed ≡ w.harmed → is_standing v.links.cables c ≡ is_standing w.links.cables c → Goes v.links.cables c (packet_for h (w.injected + 1) out) m → Lands v m (s.effects, s.world) → Flight w h c out s
   lost : (u v : WorldState) → IsOut w h c out u → StrikeKeeps u v → w.harmed < v.harmed → lookup (nat_eq (w.injected + 1)) w.plan ≢ None → IsBare v.links → told s.effects ≡ [] → s.world ≡ v → Flight w h c out s
   marred : (u v : WorldState) (wire : List ℕ) (m : Moved (List ℕ)) → IsOut w h c out u → StrikeKeeps u v → w.harmed < v.harmed → lookup (nat_eq (w.injected + 1)) w.plan ≢ None → (HasByteFaults w → difference (packet_for h (w.injected + 1) out) ≡ 0 → 0 < difference wire) → Goes w.links.cables c wire m → Lands v m (s.effects, s.world) → Flight w h c out s
 
@@ -73,6 +77,7 @@ pub data Unsent (w : WorldState) (h : ℕ) (used : Bool) : Type 0 where
   no_cable : used ≡ false → leaving w.links.cables (host_port h) ≡ None → Unsent w h used
   no_packet : to_send h (node_at w h) ≡ None → Unsent w h used
   none_left : used ≡ true → last_count ≤ w.injected → Unsent w h used
+  kept_out : used ≡ false → (c : ℕ) (out : Outgoing) → leaving w.links.cables (host_port h) ≡ Some c → to_send h (node_at w h) ≡ Some out → keeps_out w c out ≡ true → Unsent w h used
 
 pub data Sending (w : WorldState) (h : ℕ) (s : Sent) : Type 0 where
   unsent : Unsent w h s.used_up → s.number ≡ None → told s.effects ≡ [] → s.world ≡ w → Sending w h s
@@ -87,11 +92,11 @@ still w h used e why =
 lone-flight : (w : WorldState) (h c : ℕ) (out : Outgoing) (used : Bool) (u v : WorldState) → leaving w.links.cables (host_port h) ≡ Some c → IsOut w h c out u → StruckSo u v c (new_held w h out) → Flight w h c out (drained_after used (Injected (w.injected + 1), v))
 lone-flight w h c out used u v at o k = by k.outcome
   where
-    cables : v.links.cables ≡ w.links.cables
-    cables = k.keeps.cables ∙ o.cables
-
     low : c < life_channels v.links.cables
-    low = subst (λ x. c < life_channels x) (sym cables) (leaving_has_its_end w.links.cables (host_port h) c at).there
+    low =
+        let more = (later-kept (pulled-later k.keeps.pulled)).channels in
+        let first : c < life_channels u.links.cables = subst (λ x. c < life_channels x) (sym o.cables) (leaving_has_its_end w.links.cables (host_port h) c at).there in
+        omega (arith, more, first)
 
     more : v.harmed ≡ u.harmed + 1 → w.harmed < v.harmed
     more e = let a = o.harmed in omega (arith, e, a)
@@ -100,27 +105,38 @@ lone-flight w h c out used u v at o k = by k.outcome
     planned some none = some (ap (λ n. lookup (nat_eq n) u.plan) o.injected ∙ ap (lookup (nat_eq (w.injected + 1))) o.plan ∙ none)
 
     by : Outcome u v c (new_held w h out) → Flight w h c out (drained_after used (Injected (w.injected + 1), v))
-    by (Outcome.intact l e) =
+    by (Outcome.intact l s e) =
         let g = going v.links.cables c (packet_for h (w.injected + 1) out) in
-        Flight.lands u v g.end o k.keeps (e ∙ o.harmed) (subst (λ x. Goes x c (packet_for h (w.injected + 1) out) g.end) cables g.goes) (lone-drain v g.end c (new_held w h out) low (has-lone v.links c (new_held w h out) l) g.goes)
-    by (Outcome.gone b e some) =
+        let cables = s ∙ o.cables in
+        Flight.lands u v g.end o k.keeps cables (e ∙ o.harmed) (subst (λ x. Goes x c (packet_for h (w.injected + 1) out) g.end) cables g.goes) (lone-drain v g.end c (new_held w h out) low (has-lone v.links c (new_held w h out) l) g.goes)
+    by (Outcome.cut (inl (b, gone)) rise e) =
+        let d = idle-drain v (ap is_idle (is-bare v.links b) ∙ bare-idle v.links) in
+        let more : w.links.cables.changes < v.links.cables.changes = subst (λ x. x.changes < v.links.cables.changes) o.cables rise in
+        Flight.cut_off u v o k.keeps more (e ∙ o.harmed) b gone (ap (λ l. told l.value) d) (ap (λ l. l.world) d)
+    by (Outcome.cut (inr (l, stays)) rise e) =
+        let g = going v.links.cables c (packet_for h (w.injected + 1) out) in
+        let more : w.links.cables.changes < v.links.cables.changes = subst (λ x. x.changes < v.links.cables.changes) o.cables rise in
+        Flight.cut_on u v g.end o k.keeps more (e ∙ o.harmed) (stays ∙ ap (λ x. is_standing x c) o.cables) g.goes (lone-drain v g.end c (new_held w h out) low (has-lone v.links c (new_held w h out) l) g.goes)
+    by (Outcome.gone b s e some) =
         let d = idle-drain v (ap is_idle (is-bare v.links b) ∙ bare-idle v.links) in
         Flight.lost u v o k.keeps (more e) (planned some) b (ap (λ l. told l.value) d) (ap (λ l. l.world) d)
-    by (Outcome.marred new l d e some) =
+    by (Outcome.marred new l s d e some) =
         let g = going v.links.cables c new.wire in
+        let cables = s ∙ o.cables in
         Flight.marred u v new.wire g.end o k.keeps (more e) (planned some) (λ all none. d (subst (λ p. HasByteFaults (record u { plan = p })) (sym o.plan) all) refl none) (subst (λ x. Goes x c new.wire g.end) cables g.goes) (lone-drain v g.end c new low (has-lone v.links c new l) g.goes)
 
 one : (w : WorldState) (h c : ℕ) (used : Bool) (o : Option Outgoing) → IsBare w.links → leaving w.links.cables (host_port h) ≡ Some c → to_send h (node_at w h) ≡ o → used ≡ nat_le last_count w.injected → Sending w h (drained_after used (inject_one w h c o))
 one w h c used None e at is u = still w h used e (Unsent.no_packet is)
-one w h c used (Some out) e at is u = by (is_some (packet_in w.links c)) (nat_le last_count w.injected) empty refl
+one w h c used (Some out) e at is u = by (is_some (packet_in w.links c)) (nat_le last_count w.injected) (keeps_out w c out) empty refl refl
   where
     empty : is_some (packet_in w.links c) ≡ false
     empty = ap (λ t. is_some (packet_in t c)) (is-bare w.links e) ∙ ap is_some (bare-empty w.links c)
 
-    by : (a b : Bool) → a ≡ false → nat_le last_count w.injected ≡ b → Sending w h (drained_after used (if a || b then (let r : Effect × WorldState = (Idle, w) in r) else (Injected (w.injected + 1), planned_strikes (sent_out w h c out) c)))
-    by true b p q = cc
-    by false true p q = still w h used e (Unsent.none_left (u ∙ q) (grind (arith, nat_tests)))
-    by false false p q =
+    by : (a b k : Bool) → a ≡ false → nat_le last_count w.injected ≡ b → keeps_out w c out ≡ k → Sending w h (drained_after used (if a || b || k then (let r : Effect × WorldState = (Idle, w) in r) else (Injected (w.injected + 1), planned_strikes (sent_out w h c out) c)))
+    by true b k p q o = cc
+    by false true k p q o = still w h used e (Unsent.none_left (u ∙ q) (grind (arith, nat_tests)))
+    by false false true p q o = still w h used e (Unsent.kept_out (u ∙ q) c out at is o)
+    by false false false p q kept =
         let o = sent-out w h c out e in
         let low : c < life_channels (sent_out w h c out).links.cables = subst (λ x. c < life_channels x) (sym o.cables) (leaving_has_its_end w.links.cables (host_port h) c at).there in
         Sending.sent c out at is (grind (arith, nat_tests)) (u ∙ q) refl (lone-flight w h c out used (sent_out w h c out) (planned_strikes (sent_out w h c out) c) at o (planned-so (sent_out w h c out) c (new_held w h out) low o.lone))

@@ -22,6 +22,7 @@ use Rattle.world_defs.proofs.LogViews.{Tried}
 use Rattle.ask_laws.specs.Kept.{IsAskKept}
 use Rattle.ask_laws.proofs.Drained.{told}
 use Rattle.ask_laws.proofs.Back.{back-turns, back-length, entered-place}
+use Rattle.ask_laws.proofs.Stood.{IsMissing}
 use Rattle.ask_laws.proofs.Parcels.{IsParcel}
 use Rattle.ask_laws.proofs.Ready.{Ready}
 
@@ -103,12 +104,12 @@ pub data IsQuietTo (w v : WorldState) : Type 0 where
   unplanned : ((number : ℕ) → w.injected < number → number ≤ v.injected → lookup (nat_eq number) w.plan ≡ None) → v.injected < last_count → IsQuietTo w v
   unharmed : v.harmed ≡ w.harmed → v.injected < last_count → IsQuietTo w v
 
--- What a try comes to: it finds what is there, or a fault met it, or it isn't there.
-pub record IsTry {A : Type 0} (n : Network) (mapper : ℕ) (is_found : A → Bool) (Sound : A → Type 0) (Absent : Type 0) (w : WorldState) (t : Tried A) : Type 0 where
-  pub ready : Ready n mapper t.world
+-- What a try comes to: it finds what is there, or a fault met it, or it isn't there, or cables went.
+pub record IsTry {A : Type 0} (n : Network) (made mapper : ℕ) (is_found : A → Bool) (Sound : A → Type 0) (Absent : Type 0) (w : WorldState) (t : Tried A) : Type 0 where
+  pub ready : Ready n made mapper t.world
   pub kept : IsAskKept w t.world
   pub sound : is_found t.found ≡ true → Sound t.found
-  pub missed : is_found t.found ≡ false → (t.harmed ≡ true) ⊎ Absent
+  pub missed : is_found t.found ≡ false → (t.harmed ≡ true) ⊎ IsMissing made t.world Absent
   pub unharmed : is_found t.found ≡ false → IsQuietTo w t.world → t.harmed ≡ false
 
 -- bodies by the rules

@@ -1,15 +1,16 @@
 -- What an ask leaves as it was.
 use Rattle.std.specs.Prelude.{◌≡◌, ℕ, ◌≤◌, ℤ, List, nat_eq, None}
 use Rattle.std.specs.Map.{lookup}
-use Rattle.world_defs.specs.World.{WorldState, fabric_of, host_count, node_at}
+use Rattle.cable_history.specs.Later.{OnlyPulled}
+use Rattle.world_defs.specs.World.{WorldState, host_count, node_at}
 use Rattle.world_defs.specs.Logs.{ask}
 use Rattle.world_defs.specs.EightBits.{HasByteFaults}
 use Rattle.ask_laws.specs.Premises.{CanAsk}
 
--- The fabric, each host's table, connections and ports, the clients and the adopted routes are as before; no fault is
--- planned anew; and no count falls.
+-- Cables are pulled at most; each host's table, connections and ports, the clients and the adopted routes are as
+-- before; no fault is planned anew; and no count falls.
 pub record IsAskKept (w v : WorldState) : Type 0 where
-  pub fabric : fabric_of v ≡ fabric_of w
+  pub pulled : OnlyPulled w.links.cables v.links.cables
   pub hosts : host_count v ≡ host_count w
   pub table : (h : ℕ) → (node_at v h).table ≡ (node_at w h).table
   pub lanes : (h : ℕ) → (node_at v h).lanes ≡ (node_at w h).lanes
@@ -24,10 +25,10 @@ pub record IsAskKept (w v : WorldState) : Type 0 where
 
 -- an ask keeps them
 abbrev pub AskKeeps : Type 0
-AskKeeps = (w : WorldState) (mapper tries : ℕ) (walk : List ℤ) → CanAsk w mapper walk
-    → IsAskKept w (ask mapper tries walk w).world
+AskKeeps = (made : ℕ) (w : WorldState) (mapper tries : ℕ) (walk : List ℤ) → CanAsk made w mapper walk
+    → IsAskKept w (ask made mapper tries walk w).world
 
 -- and the mapper can ask again, by another walk
 abbrev pub CanAskAgain : Type 0
-CanAskAgain = (w : WorldState) (mapper tries : ℕ) (walk next : List ℤ) → CanAsk w mapper walk → CanAsk w mapper next
-    → CanAsk (ask mapper tries walk w).world mapper next
+CanAskAgain = (made : ℕ) (w : WorldState) (mapper tries : ℕ) (walk next : List ℤ) → CanAsk made w mapper walk
+    → CanAsk made w mapper next → CanAsk made (ask made mapper tries walk w).world mapper next

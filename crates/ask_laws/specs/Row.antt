@@ -18,15 +18,15 @@ IsOfAsk _ = ⊥
 
 -- an ask is such events in a row
 abbrev pub AskIsEvents : Type 0
-AskIsEvents = (w : WorldState) (mapper tries : ℕ) (walk : List ℤ)
-    → IsRow IsOfAsk w (ask mapper tries walk w).events (ask mapper tries walk w).world
+AskIsEvents = (w : WorldState) (made mapper tries : ℕ) (walk : List ℤ)
+    → IsRow IsOfAsk w (ask made mapper tries walk w).events (ask made mapper tries walk w).world
 
 -- where the links of a world are idle, they are idle after it
 abbrev pub AskEndsIdle : Type 0
-AskEndsIdle = (w : WorldState) (mapper tries : ℕ) (walk : List ℤ) → IsWorld w → is_idle w.links ≡ true
-    → is_idle (ask mapper tries walk w).world.links ≡ true
+AskEndsIdle = (w : WorldState) (made mapper tries : ℕ) (walk : List ℤ) → IsWorld w → is_idle w.links ≡ true
+    → is_idle (ask made mapper tries walk w).world.links ≡ true
 
 -- it has three injections at most for each try
 abbrev pub AskInjectsFew : Type 0
-AskInjectsFew = (w : WorldState) (mapper tries : ℕ) (walk : List ℤ)
-    → (ask mapper tries walk w).world.injected ≤ w.injected + 3 * tries
+AskInjectsFew = (w : WorldState) (made mapper tries : ℕ) (walk : List ℤ)
+    → (ask made mapper tries walk w).world.injected ≤ w.injected + 3 * tries

@@ -144,7 +144,7 @@ no-exit h test [] = refl
 no-exit h test (turn ∷ turns) = no-exit h test turns
 
 -- an exit depends on the switches alone
-exit-same : (g h : CableHistory) (small big : Wire → Bool) (d : End) (turn : ℤ) → g.switches ≡ h.switches → exit_at (fabric_by g small) d.v d.p turn ≡ exit_at (fabric_by h big) d.v d.p turn
+pub exit-same : (g h : CableHistory) (small big : Wire → Bool) (d : End) (turn : ℤ) → g.switches ≡ h.switches → exit_at (fabric_by g small) d.v d.p turn ≡ exit_at (fabric_by h big) d.v d.p turn
 exit-same g h small big d turn same = by d.v
   where
     by : (v : Vertex) → exit_at (fabric_by g small) v d.p turn ≡ exit_at (fabric_by h big) v d.p turn

@@ -29,12 +29,12 @@ all-got P [] k w all is = cc
 all-got P (v ∷ ws) zero w all is = let same : v ≡ w = cc in subst P same all.0
 all-got P (v ∷ ws) (suc k) w all is = all-got P ws k w all.1 is
 
-all-set : (P : Wire → Type 0) (ws : List Wire) (k : ℕ) (w : Wire) → AllByRecursion P ws → P w → AllByRecursion P (slice_set ws k w)
+pub all-set : (P : Wire → Type 0) (ws : List Wire) (k : ℕ) (w : Wire) → AllByRecursion P ws → P w → AllByRecursion P (slice_set ws k w)
 all-set P [] k w all here = tt
 all-set P (v ∷ ws) zero w all here = (here, all.1)
 all-set P (v ∷ ws) (suc k) w all here = (all.0, all-set P ws k w all.1 here)
 
-length-set-wire : (ws : List Wire) (k : ℕ) (w : Wire) → length (slice_set ws k w) ≡ length ws
+pub length-set-wire : (ws : List Wire) (k : ℕ) (w : Wire) → length (slice_set ws k w) ≡ length ws
 length-set-wire [] k w = refl
 length-set-wire (v ∷ ws) zero w = refl
 length-set-wire (v ∷ ws) (suc k) w = ap suc (length-set-wire ws k w)
@@ -71,7 +71,7 @@ ports-same : (h : CableHistory) (vs : List Wire) (changes : ℕ) (small big : Wi
 ports-same h vs changes small big (Host a) = omega arith
 ports-same h vs changes small big (Switch s) = omega arith
 
-fewer-fabric : (h : CableHistory) (vs : List Wire) (changes : ℕ) (small big : Wire → Bool) → AreFewer small big vs h.wires → IsFabric (fabric_by h big) → IsFabric (fabric_by (record h { wires = vs; changes = changes }) small)
+pub fewer-fabric : (h : CableHistory) (vs : List Wire) (changes : ℕ) (small big : Wire → Bool) → AreFewer small big vs h.wires → IsFabric (fabric_by h big) → IsFabric (fabric_by (record h { wires = vs; changes = changes }) small)
 fewer-fabric h vs changes small big are f =
     let g : CableHistory = record h { wires = vs; changes = changes } in
     let P : End → Type 0 = λ e. has_port (fabric_by h big) e ≡ true in

@@ -1,7 +1,11 @@
 pub mod Fewer
+pub mod FewCables
 pub mod First
 pub mod ForLife
 pub mod Kept
+pub mod Later
+pub mod Left
 pub mod Now
 pub mod Pulled
+pub mod Standing
 pub mod There

@@ -8,7 +8,7 @@ use Rattle.cable_history.specs.Fewer.{AreFewer, HasFewer, PullLeavesFewer, LeftS
 use Rattle.cable_history.proofs.Fewer.{kept, kept_if}
 
 -- cables by one and by another test
-each-fewer : (small big : Wire → Bool) (ws : List Wire) → ((w : Wire) → small w ≡ true → big w ≡ true) → AreFewer small big ws ws
+pub each-fewer : (small big : Wire → Bool) (ws : List Wire) → ((w : Wire) → small w ≡ true → big w ≡ true) → AreFewer small big ws ws
 each-fewer small big [] more = AreFewer.none
 each-fewer small big (w ∷ ws) more = AreFewer.more refl (more w) (each-fewer small big ws more)
 
@@ -52,10 +52,10 @@ unplugged_stood h made all = record { switches = refl; wires = each h.wires all 
         one (Some c) p s = absurd (true≢false (sym s))
 
 -- the past
-late-pull : (past changes : ℕ) (w : Wire) → past ≤ changes → w.pulled ≡ None → stood_at past (record w { pulled = Some (changes + 1) }) ≡ stood_at past w
+pub late-pull : (past changes : ℕ) (w : Wire) → past ≤ changes → w.pulled ≡ None → stood_at past (record w { pulled = Some (changes + 1) }) ≡ stood_at past w
 late-pull past changes w low p = let after : nat_lt past (changes + 1) ≡ true = grind (arith, nat_tests) in rw (after, p) refl
 
-late-plug : (past changes : ℕ) (w : Wire) → past ≤ changes → w.plugged ≡ changes + 1 → stood_at past w ≡ false
+pub late-plug : (past changes : ℕ) (w : Wire) → past ≤ changes → w.plugged ≡ changes + 1 → stood_at past w ≡ false
 late-plug past changes w low p = let not_yet : nat_le w.plugged past ≡ false = grind (arith, nat_tests) in rw not_yet refl
 
 -- the cables of a test, and those of another that a cable passes where it passes the first
@@ -73,7 +73,7 @@ kept-set test [] k v w is same both = cc
 kept-set test (u ∷ ws) zero v w is same both = let e : u ≡ w = cc in kept-same test test v u ws ws (same ∙ sym (ap (λ x. x.cable) e)) (both ∙ sym (ap test e)) refl
 kept-set test (u ∷ ws) (suc k) v w is same both = kept-same test test u u (slice_set ws k v) ws refl refl (kept-set test ws k v w is same both)
 
-kept-push : (test : Wire → Bool) (ws : List Wire) (v : Wire) → test v ≡ false → kept test (ws ++ v ∷ []) ≡ kept test ws
+pub kept-push : (test : Wire → Bool) (ws : List Wire) (v : Wire) → test v ≡ false → kept test (ws ++ v ∷ []) ≡ kept test ws
 kept-push test [] v out = rw out refl
 kept-push test (w ∷ ws) v out = kept-same test test w w (ws ++ v ∷ []) ws refl refl (kept-push test ws v out)
 

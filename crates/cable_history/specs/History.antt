@@ -2,7 +2,7 @@
 -- pulled keeps its own.
 use Rattle.std.specs.Prelude.{ℕ, ◌+◌, ◌<◌, ◌≤◌, Bool, true, not, ◌&&◌, nat_lt, nat_le, List, [], ◌∷◌, ◌++◌, map, length}
 use Rattle.std.specs.Prelude.{slice_get, slice_set, if◌then◌else◌, Option, Some, None, is_none, IfSome}
-use Rattle.std.specs.List.{filter, AllByRecursion}
+use Rattle.std.specs.List.{list_any, filter, AllByRecursion}
 use Rattle.net_defs.specs.declared.vertex.End.{End}
 use Rattle.net_defs.specs.declared.vertex.Cable.{Cable}
 use Rattle.net_defs.specs.Network.{Network, NamedSwitch, IsFabric}
@@ -48,6 +48,10 @@ is_in_place w = is_none w.pulled
 -- a cable was plugged since the cables were accepted
 abbrev pub is_new_wire : CableHistory → Wire → Bool
 is_new_wire h w = nat_lt h.accepted w.plugged
+
+-- a cable was plugged since the cables were accepted, wherever it is now
+abbrev pub was_plugged : CableHistory → Bool
+was_plugged h = list_any (is_new_wire h) h.wires
 
 -- a cable is in place, and isn't new
 abbrev pub is_left : CableHistory → Wire → Bool

@@ -4,6 +4,9 @@ ghost use Rattle.cable_history.specs.Fewer.{FewerCablesAreFront, ReachedOverMore
 ghost use Rattle.cable_history.specs.Fewer.{PullLeavesFewer, UnpluggedStood, PullKeepsPast, PlugKeepsPast};
 ghost use Rattle.cable_history.specs.Laws.{FirstIsHistory, FirstStands, FirstChannels, PullKeepsHistory};
 ghost use Rattle.cable_history.specs.Laws.{PullAtKeepsHistory, PlugKeepsHistory, AcceptKeepsHistory, AcceptedIsOld};
+ghost use Rattle.cable_history.specs.Later.{PulledIsLater, LaterOnIsLater, PulledOnIsPulled, LaterKeeps};
+ghost use Rattle.cable_history.specs.Later.{LaterKeepsChannels, LaterKeepsPast, LaterKeepsPastChannels};
+ghost use Rattle.cable_history.specs.Later.{PulledLeaveFewer, UnchangedIsSame};
 ghost use Rattle.cable_history.specs.Laws.{LastIsNow, LeavingHasItsEnd, StandingLeavesItsTail, EndsAreForLife, EndsAreThere};
 
 /// Before any change the fabric stands as it ever stood, and its channels are those of its cables.
@@ -45,4 +48,17 @@ pub fn fewer_cables()
     ensures left { LeftStoodAtAcceptance }
     ensures pull { PullLeavesFewer }
     ensures unplugged { UnpluggedStood }
+{}
+
+/// Later changes keep the hosts, the switches, the channels' ends and all that is past; pulls leave fewer cables.
+pub fn later_changes()
+    ensures pulled { PulledIsLater }
+    ensures later_on { LaterOnIsLater }
+    ensures pulled_on { PulledOnIsPulled }
+    ensures kept { LaterKeeps }
+    ensures channels { LaterKeepsChannels }
+    ensures past { LaterKeepsPast }
+    ensures past_channels { LaterKeepsPastChannels }
+    ensures fewer { PulledLeaveFewer }
+    ensures unchanged { UnchangedIsSame }
 {}

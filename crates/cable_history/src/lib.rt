@@ -3,7 +3,7 @@
 //!
 //! This crate holds definitions, laws, and the small type that they speak of. It holds no fabric's cables in memory: that is `fabric_wiring`.
 //! `specs/History.antt` says what a history is and what changes it, `specs/Crossed.antt` which channels it has,
-//! `specs/Fewer.antt` what walks over fewer cables keep of walks over more.
+//! `specs/Fewer.antt` what walks over fewer cables keep of walks over more, `specs/Later.antt` what later changes keep.
 //!
 //! ```text
 //!   changes          0          1 pull         2 plug        accept
@@ -18,5 +18,7 @@ mod laws;
 mod wire;
 
 pub use examples::{cables_of_two_hosts, pulled_and_plugged};
-pub use laws::{ends_for_life, fewer_cables, first_histories, kept_histories, the_past};
+pub use laws::{
+    ends_for_life, fewer_cables, first_histories, kept_histories, later_changes, the_past,
+};
 pub use wire::Wire;

@@ -1,12 +1,13 @@
 -- How many packets the links hold, before and after each of their steps.
-use Rattle.std.proofs.Common.{◌≡◌, ◌<◌, ◌+◌, ℕ, zero, suc, Bool, true, false, cond, not, ◌&&◌, nat_eq, List, [], ◌∷◌, length, get_or, set, Option, Some, None, is_some, refl, ap, ◌∙◌, subst, arith, length-append, length-set, if◌then◌else◌}
-use Rattle.std.specs.List.{AllByRecursion}
+use Rattle.std.proofs.Common.{◌≡◌, ◌<◌, ◌+◌, ◌*◌, ◌/◌, ℕ, zero, suc, Bool, true, false, cond, not, ◌&&◌, nat_eq, List, [], ◌∷◌, ◌++◌, length, get_or, set, count_by, Option, Some, None, is_some, refl, sym, ap, ◌∙◌, subst, arith, true≢false, length-append, length-set, if◌then◌else◌}
+use Rattle.std.specs.List.{AllByRecursion, filter}
 use Rattle.std.specs.Map.{lookup, remove_entry}
-use Rattle.std.proofs.lemmas.List.Sums.{sum_by-set}
+use Rattle.std.proofs.lemmas.List.{get_or-set_other}
+use Rattle.std.proofs.lemmas.List.Sums.{sum_by-set, sum_by-append}
 use Rattle.net_defs.specs.declared.vertex.Vertex.TheVariants.{Host, Switch}
 use Rattle.net_defs.specs.declared.vertex.End.{End}
 use Rattle.net_defs.specs.Network.{ports_of}
-use Rattle.cable_history.specs.History.{CableHistory, fabric_now}
+use Rattle.cable_history.specs.History.{CableHistory, fabric_now, may_plug, with_plugged}
 use Rattle.link_defs.specs.declared.turned.Turned.{Turned}
 use Rattle.link_defs.specs.declared.turned.Turned.TheVariants.{Out, OutOfRange as TurnedTooFar, NotRoute as NoTurn}
 use Rattle.link_defs.specs.declared.moved.Course.TheVariants.{Enters, Drops}
@@ -18,11 +19,11 @@ use Rattle.cable_history.proofs.ForLife.{leaving_has_its_end}
 use Rattle.link_defs.specs.Links.{Held, Caught, LinkState, packet_in, with_packet, emptied, put}
 use Rattle.link_defs.specs.Switch.{aim}
 use Rattle.link_defs.specs.Advance.{course_by_channel, course_out, course_at, course_into, course}
-use Rattle.link_defs.specs.Fault.{lose, repeat_of, repeat, hold_of, hold, flip_of, flip, is_used_up, with_caught, caught_as, released, replay_of, replay}
+use Rattle.link_defs.specs.Fault.{lose, repeat_of, repeat, hold_of, hold, flip_of, flip, is_used_up, with_caught, caught_as, released, replay_of, replay, without_cable, pull_by, pull, plug}
 use Rattle.link_defs.specs.Shape.{IsLinks}
 use Rattle.link_defs.proofs.Idling.{pick}
 use Rattle.packet_defs.specs.Burst.{flipped, may_flip}
-use Rattle.counter_laws.specs.Counts.{in_channels, in_limbo}
+use Rattle.counter_laws.specs.Counts.{with_cable, taken_at, in_channels, in_limbo}
 
 -- the packets that the links hold
 abbrev pub present : LinkState → ℕ
@@ -146,6 +147,78 @@ replay-present s serial c is k = by (caught_as s serial) refl k
     by : (o : Option Caught) → caught_as s serial ≡ o → (replay_of s serial o).0 ≡ Back c → present (replay_of s serial o).1 ≡ present s
     by None e k = cc
     by (Some x) e k = room x (packet_in s x.channel) e refl k
+
+-- a count with one thing more
+count-cons : {A : Type 0} (t : A → Bool) (x : A) (xs : List A) → count_by t (x ∷ xs) ≡ count_by t xs + cond (t x) 1 0
+count-cons {A = A} t x xs = let h : count_by t (x ∷ xs) ≡ (0 + cond (t x) 1 0) + count_by t xs = sum_by-append (λ (y : A). cond (t y) 1 0) (x ∷ []) xs in omega (arith, h)
+
+-- a channel is emptied, whatever it holds
+taken-one : (ps : List (Option Held)) (i : ℕ) → count_by is_some (set ps i None) + one (get_or ps i None) ≡ count_by is_some ps
+taken-one [] i = refl
+taken-one (p ∷ ps) zero =
+    let a : count_by is_some (None ∷ ps) ≡ count_by is_some ps + 0 = count-cons is_some None ps in
+    let b : count_by is_some (p ∷ ps) ≡ count_by is_some ps + one p = count-cons is_some p ps in
+    omega (arith, a, b)
+taken-one (p ∷ ps) (suc i) =
+    let h = taken-one ps i in
+    let a : count_by is_some (p ∷ set ps i None) ≡ count_by is_some (set ps i None) + one p = count-cons is_some p (set ps i None) in
+    let b : count_by is_some (p ∷ ps) ≡ count_by is_some ps + one p = count-cons is_some p ps in
+    omega (arith, h, a, b)
+
+two : (p q : Option Held) → count_by is_some (p ∷ q ∷ []) ≡ one q + one p
+two p q =
+    let a : count_by is_some (p ∷ q ∷ []) ≡ count_by is_some (q ∷ []) + one p = count-cons is_some p (q ∷ []) in
+    let b : count_by is_some (q ∷ []) ≡ 0 + one q = count-cons is_some q [] in
+    omega (arith, a, b)
+
+channels-taken : (ps : List (Option Held)) (k : ℕ) → count_by is_some (set (set ps (2 * k) None) (2 * k + 1) None) + count_by is_some (get_or ps (2 * k) None ∷ get_or ps (2 * k + 1) None ∷ []) ≡ count_by is_some ps
+channels-taken ps k =
+    let a = taken-one ps (2 * k) in
+    let b = taken-one (set ps (2 * k) None) (2 * k + 1) in
+    let c : one (get_or (set ps (2 * k) None) (2 * k + 1) None) ≡ one (get_or ps (2 * k + 1) None) = ap one (get_or-set_other ps (2 * k) (2 * k + 1) None None (λ e. omega (arith, e))) in
+    let d = two (get_or ps (2 * k) None) (get_or ps (2 * k + 1) None) in
+    omega (arith, a, b, c, d)
+
+-- what a test leaves and what it takes
+filtered : {A : Type 0} (t : A → Bool) (es : List A) → length (filter (λ e. not (t e)) es) + count_by t es ≡ length es
+filtered t [] = refl
+filtered {A = A} t (e ∷ es) = ap (λ m. length (filter (λ x. not (t x)) (e ∷ es)) + m) (count-cons t e es) ∙ by (t e) (filtered t es)
+  where
+    by : (b : Bool) → length (filter (λ x. not (t x)) es) + count_by t es ≡ length es → length (if not b then e ∷ filter (λ x. not (t x)) es else filter (λ x. not (t x)) es) + (count_by t es + cond b 1 0) ≡ suc (length es)
+    by true h = omega (arith, h)
+    by false h = omega (arith, h)
+
+-- a pull
+pub pull-present : (s : LinkState) (e : End) → (pull s e).0 ≡ true → present (pull s e).1 + taken_at s e ≡ present s
+pull-present s e k = by (leaving s.cables e) k
+  where
+    by : (o : Option ℕ) → (pull_by s o).0 ≡ true → present (pull_by s o).1 + with_cable s o ≡ present s
+    by None k = absurd (true≢false (sym k))
+    by (Some c) k =
+        let a = channels-taken s.channels (c / 2) in
+        let b : length (without_cable (c / 2) s.limbo) + count_by (λ (x : ℕ × Caught). nat_eq (x.1.channel / 2) (c / 2)) s.limbo ≡ length s.limbo = filtered (λ (x : ℕ × Caught). nat_eq (x.1.channel / 2) (c / 2)) s.limbo in
+        omega (arith, a, b)
+
+pub pull-nothing : (s : LinkState) (e : End) → (pull s e).0 ≡ false → taken_at s e ≡ 0
+pull-nothing s e k = by (leaving s.cables e) k
+  where
+    by : (o : Option ℕ) → (pull_by s o).0 ≡ false → with_cable s o ≡ 0
+    by None k = refl
+    by (Some c) k = absurd (true≢false k)
+
+-- a plug
+pub plug-present : (s : LinkState) (a b : End) → (plug s a b).0 ≡ true → present (plug s a b).1 ≡ present s
+plug-present s a b k = by (may_plug s.cables a b) k
+  where
+    l : LinkState
+    l = record s { cables = with_plugged s.cables a b; channels = s.channels ++ None ∷ None ∷ [] }
+
+    by : (t : Bool) → (pick t (true, l) (false, s)).0 ≡ true → present (pick t (true, l) (false, s)).1 ≡ present s
+    by false k = absurd (true≢false (sym k))
+    by true k =
+        let h : count_by is_some (s.channels ++ None ∷ None ∷ []) ≡ count_by is_some s.channels + 0 = sum_by-append one s.channels (None ∷ None ∷ []) in
+        let m : count_by is_some (s.channels ++ None ∷ None ∷ []) + length s.limbo ≡ count_by is_some s.channels + length s.limbo = omega (arith, h) in
+        m
 
 -- a packet enters a channel that is there
 enters-low : (cables : CableHistory) (c next : ℕ) (wire : List ℕ) → course cables c wire ≡ Enters next → next < life_channels cables

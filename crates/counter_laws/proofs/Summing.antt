@@ -10,7 +10,7 @@ use Rattle.world_defs.specs.declared.fault.Fault.{Fault}
 use Rattle.world_defs.specs.World.{WorldState, new_world, last_count}
 use Rattle.world_defs.specs.Step.{is_harm}
 use Rattle.act_defs.specs.Acts.{Act, acted, acted_all}
-use Rattle.counter_laws.specs.Counts.{effect_of, effects_of, strike_of, strikes_of, is_injection, is_copy, is_arrival, is_drop, is_loss, is_reset, is_copying, is_losing, drops}
+use Rattle.counter_laws.specs.Counts.{effect_of, effects_of, strike_of, strikes_of, taken_of, taken_in, is_injection, is_copy, is_arrival, is_drop, is_loss, is_reset, is_copying, is_losing, drops}
 use Rattle.counter_laws.specs.Conserved.{PacketsAreConserved, CountersAreTrue}
 use Rattle.counter_laws.proofs.Acting.{came, went, Tells, acted-tells}
 
@@ -34,8 +34,8 @@ went-append es ys fs gs =
     omega (arith, a, b, c, d, e)
 
 -- one stretch of acts after another
-then-tells : (w v u : WorldState) (es ys : List Effect) (fs gs : List Fault) → Tells w v es fs → Tells v u ys gs → Tells w u (es ++ ys) (fs ++ gs)
-then-tells w v u es ys fs gs t s = record {
+then-tells : (w v u : WorldState) (es ys : List Effect) (fs gs : List Fault) (j k : ℕ) → Tells w v es fs j → Tells v u ys gs k → Tells w u (es ++ ys) (fs ++ gs) (j + k)
+then-tells w v u es ys fs gs j k t s = record {
   links = λ is. s.links (t.links is);
   balance = λ is.
       let a = t.balance is in
@@ -49,12 +49,12 @@ then-tells w v u es ys fs gs t s = record {
   harmed = let a = t.harmed in let b = s.harmed in let c = count-append is_harm fs gs in omega (arith, a, b, c);
 }
 
-none-tells : (w : WorldState) → Tells w w [] []
+none-tells : (w : WorldState) → Tells w w [] [] 0
 none-tells w = record { links = λ is. is; balance = λ is. refl; injected = omega arith; dropped = λ m e. e ∙ ap (λ k. min k last_count) (omega arith); struck = omega arith; harmed = omega arith }
 
-all-tell : (w : WorldState) (acts : List Act) → Tells w (acted_all w acts) (effects_of w acts) (strikes_of w acts)
+all-tell : (w : WorldState) (acts : List Act) → Tells w (acted_all w acts) (effects_of w acts) (strikes_of w acts) (taken_in w acts)
 all-tell w [] = none-tells w
-all-tell w (a ∷ acts) = then-tells w (acted w a) (acted_all (acted w a) acts) (effect_of w a) (effects_of (acted w a) acts) (strike_of w a) (strikes_of (acted w a) acts) (acted-tells w a) (all-tell (acted w a) acts)
+all-tell w (a ∷ acts) = then-tells w (acted w a) (acted_all (acted w a) acts) (effect_of w a) (effects_of (acted w a) acts) (strike_of w a) (strikes_of (acted w a) acts) (taken_of w a) (taken_in (acted w a) acts) (acted-tells w a) (all-tell (acted w a) acts)
 
 -- a new world has no packets
 no_packets : (k : ℕ) → count_by is_some (replicate {A = Option Held} k None) ≡ 0
@@ -63,14 +63,14 @@ no_packets (suc k) = no_packets k
 
 pub packets-conserved : PacketsAreConserved
 packets-conserved n acts =
-    let t : Tells (new_world n) (acted_all (new_world n) acts) (effects_of (new_world n) acts) (strikes_of (new_world n) acts) = all-tell (new_world n) acts in
+    let t : Tells (new_world n) (acted_all (new_world n) acts) (effects_of (new_world n) acts) (strikes_of (new_world n) acts) (taken_in (new_world n) acts) = all-tell (new_world n) acts in
     let none = no_packets (life_channels (first_history n)) in
     let balance = t.balance (empty-links n) in
     omega (arith, none, balance)
 
 pub counters-true : CountersAreTrue
 counters-true n acts =
-    let t : Tells (new_world n) (acted_all (new_world n) acts) (effects_of (new_world n) acts) (strikes_of (new_world n) acts) = all-tell (new_world n) acts in
+    let t : Tells (new_world n) (acted_all (new_world n) acts) (effects_of (new_world n) acts) (strikes_of (new_world n) acts) (taken_in (new_world n) acts) = all-tell (new_world n) acts in
     record {
       injected = let a = t.injected in omega (arith, a);
       dropped = t.dropped 0 (omega arith) ∙ ap (λ k. min k last_count) (omega arith);

@@ -1,16 +1,18 @@
 -- What acts did to packets: the effects of their events, the planned faults that struck, and how many of each kind.
-use Rattle.std.specs.Prelude.{ℕ, ◌+◌, Bool, true, false, List, [], ◌∷◌, ◌++◌, length, nat_eq, is_some, count_by}
+use Rattle.std.specs.Prelude.{ℕ, ◌+◌, ◌*◌, ◌/◌, Bool, true, false, List, [], ◌∷◌, ◌++◌, length, nat_eq, is_some, count_by}
 use Rattle.std.specs.Prelude.{if◌then◌else◌, Option, Some, None}
 use Rattle.std.specs.Map.{lookup}
+use Rattle.net_defs.specs.declared.vertex.End.{End}
 use Rattle.net_defs.specs.Route.{host_port}
 use Rattle.cable_history.specs.Crossed.{leaving}
-use Rattle.link_defs.specs.Links.{LinkState}
+use Rattle.link_defs.specs.Links.{LinkState, packet_in}
 use Rattle.world_defs.specs.declared.event.Event.{Event}
-use Rattle.world_defs.specs.declared.event.Event.TheVariants.{Inject}
+use Rattle.world_defs.specs.declared.event.Event.TheVariants.{Inject, Pull}
 use Rattle.world_defs.specs.declared.effect.Effect.{Effect}
-use Rattle.world_defs.specs.declared.effect.Effect.TheVariants.{Injected, Arrived, Dropped, Lost, Reset, Repeated}
+use Rattle.world_defs.specs.declared.effect.Effect.TheVariants.{Injected, Arrived, Dropped, Lost, Reset, Repeated, Said}
 use Rattle.world_defs.specs.declared.fault.Fault.{Fault}
 use Rattle.world_defs.specs.declared.fault.Fault.TheVariants.{Lose as LoseFault, Repeat as RepeatFault}
+use Rattle.world_defs.specs.declared.fault.Fault.TheVariants.{Pull as PullFault}
 use Rattle.world_defs.specs.Node.{Outgoing, to_send}
 use Rattle.world_defs.specs.World.{WorldState, node_at}
 use Rattle.world_defs.specs.Step.{fault_on, sent_out, step}
@@ -54,6 +56,45 @@ strike_of w (Adopts mapper routes) = []
 abbrev pub strikes_of : WorldState → List Act → List Fault
 strikes_of w [] = []
 strikes_of w (a ∷ acts) = strike_of w a ++ strikes_of (acted w a) acts
+
+-- how many packets go with the cable of a channel: those in its two channels, and those in limbo that were in them
+abbrev pub with_cable : LinkState → Option ℕ → ℕ
+with_cable l None = 0
+with_cable l (Some c) =
+    count_by is_some (packet_in l (2 * (c / 2)) ∷ packet_in l (2 * (c / 2) + 1) ∷ [])
+    + count_by (λ e. nat_eq (e.1.channel / 2) (c / 2)) l.limbo
+
+-- how many packets a pull at a port takes
+abbrev pub taken_at : LinkState → End → ℕ
+taken_at l e = with_cable l (leaving l.cables e)
+
+-- how many packets the planned fault takes, where it is a pull
+abbrev pub taken_by_fault : LinkState → Option Fault → ℕ
+taken_by_fault l (Some (PullFault at)) = taken_at l at
+taken_by_fault l _ = 0
+
+-- how many packets the fault that was planned for a host's injection takes, by its channel and what was sent
+abbrev pub taken_on : WorldState → ℕ → ℕ → Option ℕ → Option Outgoing → ℕ
+taken_on w h number (Some c) (Some out) = taken_by_fault (sent_out w h c out).links (lookup (nat_eq number) w.plan)
+taken_on w h number _ _ = 0
+
+-- how many packets a pull takes at an event of this effect: the event itself, or the one that was planned for it
+abbrev pub taken_by : WorldState → Effect → Event → ℕ
+taken_by w (Injected number) (Inject h) =
+    taken_on w h number (leaving w.links.cables (host_port h)) (to_send h (node_at w h))
+taken_by w (Said said) (Pull at) = taken_at w.links at
+taken_by w _ _ = 0
+
+-- how many packets pulls take at an act
+abbrev pub taken_of : WorldState → Act → ℕ
+taken_of w (Happens e) = taken_by w (step w e).0 e
+taken_of w (Plans ahead fault) = 0
+taken_of w (Adopts mapper routes) = 0
+
+-- how many packets pulls take within acts
+abbrev pub taken_in : WorldState → List Act → ℕ
+taken_in w [] = 0
+taken_in w (a ∷ acts) = taken_of w a + taken_in (acted w a) acts
 
 -- a host injected a packet
 abbrev pub is_injection : Effect → Bool

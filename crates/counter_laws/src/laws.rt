@@ -3,7 +3,7 @@
 ghost use Rattle.counter_laws.specs.Conserved.{PacketsAreConserved, CountersAreTrue};
 
 /// At every moment the packets that were injected and copied are as many as those in channels and in limbo, and those
-/// that were heard, dropped, lost and reset.
+/// that were heard, dropped, lost, reset and taken with their cable.
 pub fn conserved_packets()
     ensures { PacketsAreConserved }
 {}

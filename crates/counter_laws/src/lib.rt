@@ -1,5 +1,5 @@
 //! Packets are conserved: those that were injected or copied are those in channels and in limbo, and those that were
-//! heard, dropped, lost or reset; and a world's counters are the numbers of its events.
+//! heard, dropped, lost, reset or taken with their cable; and a world's counters are the numbers of its events.
 //!
 //! It says nothing of which packet is where, nor of what a packet carries: what channels hold is `table_laws`, what an
 //! event does to the counts is `world_laws`. Read `specs/Conserved.antt` first.
@@ -11,7 +11,7 @@
 //! | `Examples` | six packets and two copies, one end of each kind |
 //!
 //! ```text
-//!   injected -.                    .--> heard, dropped, lost, reset
+//!   injected -.                    .--> heard, dropped, lost, reset, taken
 //!              >-- in channels ---<
 //!   copied ---'     in limbo       '--> still there
 //! ```

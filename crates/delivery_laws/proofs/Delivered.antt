@@ -5,6 +5,7 @@ use Rattle.std.specs.List.{AllByRecursion, filter}
 use Rattle.std.proofs.lemmas.Bool.Decides.{nat_tests}
 use Rattle.std.proofs.lemmas.List.{get_or_past}
 use Rattle.net_defs.specs.Network.{Network}
+use Rattle.cable_history.specs.History.{fabric_at}
 use Rattle.gm_defs.specs.declared.message.Message.{Message}
 use Rattle.gm_defs.specs.declared.token.Filling.{Filling}
 use Rattle.gm_defs.specs.declared.frame.ConnectionKey.{ConnectionKey}
@@ -16,10 +17,10 @@ use Rattle.gm_defs.proofs.Takers.{finds}
 use Rattle.world_defs.specs.Lane.{new_lane}
 use Rattle.world_defs.specs.Node.{prio_place, lane_of, sending_lane, lane_at, port_at, unacknowledged_to}
 use Rattle.world_defs.specs.Hearing.{port_fits, port_has_begun}
-use Rattle.world_defs.specs.World.{WorldState, fabric_of, host_count, node_at}
+use Rattle.world_defs.specs.World.{WorldState, host_count, node_at}
 use Rattle.world_defs.specs.Traffic.{sender_on, sent_on, got_on, coming_on}
 use Rattle.world_defs.specs.Settle.{unacknowledged_from, unacknowledged_in}
-use Rattle.world_defs.specs.Settled.{IsWaiting, IsSettledConnection, IsSettled, all_acknowledged, no_route, no_route_back, waiting}
+use Rattle.world_defs.specs.Settled.{IsWaiting, IsSettledConnection, IsSettled, all_acknowledged, no_route, no_route_back, cut, cut_back, waiting}
 use Rattle.world_laws.specs.Reached.{IsOfSettle}
 use Rattle.world_laws.proofs.Along.{settle-along}
 use Rattle.world_laws.proofs.Reached.{settles-of}
@@ -274,10 +275,10 @@ all-done z done = total-zero (unacknowledged_from z) 0 (host_count z) (λ h low.
         (λ k. unacknowledged_to (node_at z (i k)) (j k)) ∙ sum
 
 pub settle-delivers : SettleDelivers
-settle-delivers w can left enough = (none, none-got n z k.reached none)
+settle-delivers w can left enough paths = (none, none-got n z k.reached none)
   where
     n : Network
-    n = fabric_of w
+    n = fabric_at w.links.cables 0
 
     z : WorldState
     z = (settle w).world
@@ -314,6 +315,8 @@ settle-delivers w can left enough = (none, none-got n z k.reached none)
         by (all_acknowledged d) false e = d
         by (no_route d) false e = absurd (true≢false (sym (k.routes c.src c.dst (enough.tables c (was e)).0) ∙ ap is_some d))
         by (no_route_back d) false e = absurd (true≢false (sym (k.routes c.dst c.src (enough.tables c (was e)).1) ∙ ap is_some d))
+        by (cut d) false e = absurd (true≢false (sym d ∙ (paths.routes c (was e)).0))
+        by (cut_back d) false e = absurd (true≢false (sym d ∙ (paths.routes c (was e)).1))
         by (waiting wait) false e = absurd (none-waits n z k.reached tokens c src dst wait)
 
     none : unacknowledged_in z ≡ 0

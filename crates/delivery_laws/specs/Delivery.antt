@@ -1,6 +1,7 @@
 -- When a settle delivers all that was sent.
-use Rattle.std.specs.Prelude.{◌≡◌, ℕ, ◌<◌, ◌≤◌, Bool, ◌&&◌, List, ◌++◌, drop, length, map, nat_eq, IsSome}
+use Rattle.std.specs.Prelude.{◌≡◌, ℕ, ◌<◌, ◌≤◌, Bool, false, ◌&&◌, List, ◌++◌, drop, length, map, nat_eq, IsSome}
 use Rattle.std.specs.List.{filter}
+use Rattle.cable_history.specs.History.{fabric_at}
 use Rattle.gm_defs.specs.declared.message.Message.{Message}
 use Rattle.gm_defs.specs.declared.frame.ConnectionKey.{ConnectionKey}
 use Rattle.gm_defs.specs.Body.{prio_limit}
@@ -8,8 +9,8 @@ use Rattle.gm_defs.specs.Connection.{connection}
 use Rattle.gm_defs.specs.Token.{Provided, fits}
 use Rattle.world_defs.specs.Table.{table_route}
 use Rattle.world_defs.specs.Node.{port_at}
-use Rattle.world_defs.specs.World.{WorldState, fabric_of, host_count, last_count, new_world, node_at, addresses, sum_of}
-use Rattle.world_defs.specs.Traffic.{sender_on, sent_on, got_on}
+use Rattle.world_defs.specs.World.{WorldState, host_count, last_count, new_world, node_at, addresses, sum_of}
+use Rattle.world_defs.specs.Traffic.{is_broken, sender_on, sent_on, got_on}
 use Rattle.world_defs.specs.Settle.{unacknowledged_in}
 use Rattle.world_defs.specs.Logs.{settle}
 use Rattle.message_laws.specs.Filling.{provided_in}
@@ -51,19 +52,25 @@ pub record HasEnough (w : WorldState) : Type 0 where
       → IsSome (table_route (node_at w c.src).table c.dst) × IsSome (table_route (node_at w c.dst).table c.src)
   pub tokens : (h port size prio : ℕ) → h < host_count w → wanted_at w h port size prio ≤ provided_at w h port size prio
 
--- Then a settle gets all that was sent, and all is acknowledged after it, whatever faults are
--- planned, where the count of injections hasn't reached its last value then.
+-- Where something isn't acknowledged in a world, the routes of its hosts to each other aren't broken in a later one.
+pub record HasPaths (w z : WorldState) : Type 0 where
+  pub routes : (c : ConnectionKey) → (sender_on w c).base < (sender_on w c).next
+      → (is_broken z c.src c.dst ≡ false) × (is_broken z c.dst c.src ≡ false)
+
+-- Then a settle gets all that was sent, and all is acknowledged after it, whatever faults are planned, where they break
+-- none of these routes and the count of injections hasn't reached its last value then.
 abbrev pub SettleDelivers : Type 0
 SettleDelivers =
-    (w : WorldState) → CanSettle w → (settle w).world.injected < last_count → HasEnough w
+    (w : WorldState) → CanSettle w → (settle w).world.injected < last_count → HasEnough w → HasPaths w (settle w).world
     → (unacknowledged_in (settle w).world ≡ 0) × IsAllGot (settle w).world
 
 -- And after it what polls handed to the client of a port, and what waits there, are all messages that sends to this
 -- port were accepted with.
 abbrev pub SettledIsSeen : Type 0
 SettledIsSeen =
-    (w : WorldState) → CanSettle w → (settle w).world.injected < last_count → HasEnough w
-    → (is : IsReached (fabric_of w) (settle w).world) (c : ConnectionKey) (port : ℕ) → c.prio < prio_limit
+    (w : WorldState) → CanSettle w → (settle w).world.injected < last_count → HasEnough w → HasPaths w (settle w).world
+    → (is : IsReached (fabric_at w.links.cables 0) (settle w).world) (c : ConnectionKey) (port : ℕ) → c.prio < prio_limit
     → filter (is_on c.src c.prio)
-    (handed_in c.dst port (new_world (fabric_of w)) is.acts ++ waiting_in (port_at (node_at (settle w).world c.dst) port))
-    ≡ map (as_handed c.src) (filter (is_to port) (accepted_in c (new_world (fabric_of w)) is.acts))
+    (handed_in c.dst port (new_world (fabric_at w.links.cables 0)) is.acts
+    ++ waiting_in (port_at (node_at (settle w).world c.dst) port))
+    ≡ map (as_handed c.src) (filter (is_to port) (accepted_in c (new_world (fabric_at w.links.cables 0)) is.acts))

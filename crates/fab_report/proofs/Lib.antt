@@ -1,4 +1,5 @@
 mod Hexadecimal
+pub mod Names
 pub mod Printing
 pub mod Summaries
 pub mod Writing

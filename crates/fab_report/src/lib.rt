@@ -40,4 +40,4 @@ pub use printed::Printed;
 pub use run_defs::{
     ClientCall, Figure, InstallCause, Line, MapWords, PlaceEntry, PlaceList, StepWords,
 };
-pub use summary::print_summary;
+pub use summary::{begin_summary, end_summary};

@@ -187,6 +187,7 @@ fn install_word(cause: InstallCause) -> &'static [u8]
     match cause {
         InstallCause::NoRoutes => b"noroutes",
         InstallCause::Busy => b"busy",
+        InstallCause::Changed => b"changed",
         InstallCause::Installed => b"installed",
         InstallCause::Epochs => b"epochs",
     }

@@ -3,34 +3,18 @@
 ghost use Rattle.std.specs.Prelude.{◌≡◌, ◌++◌, length, flat_map, count_by, IfOk, OnOk};
 ghost use Rattle.run_defs.specs.LineText.{line_text, output_text};
 ghost use Rattle.run_defs.specs.Output.{lines};
-ghost use Rattle.run_defs.specs.Summary.{count_line, is_accepted, is_received, mapping_lines, settle_lines, summary};
+ghost use Rattle.run_defs.specs.Summary.{count_line, is_accepted, is_received, mapping_lines, settle_lines};
 ghost use Rattle.run_defs.specs.declared.line.Line.TheVariants.{GenHead};
+ghost use Rattle.fab_report.specs.Printed.{figure_lines};
 
 use crate::line::{print_line, print_made_onto};
 use port_graph::Fabric;
 use run_defs::{Figure, Line};
 use std::alloc::{AllocError, Global};
 
-/// The text of the summary of a generated run over its fabric, from the figures of its report: `n` hosts from this
-/// seed were generated.
-pub fn print_summary(
-    alloc: Global,
-    n: u8,
-    seed: u32,
-    f: &Fabric,
-    figures: &[Figure],
-) -> Result<Vec<u8>, AllocError>
-    ensures { IfOk result (λ text. text.items ≡ output_text f.now (lines (summary n seed f.now figures.now))) }
-{
-    let mut text = head_text(alloc, n, seed, f)?;
-    append_mappings(&mut text, f, figures)?;
-    append_counts(&mut text, f, figures)?;
-    append_settles(&mut text, f, figures)?;
-    Ok(text)
-}
-
-// The line of what was generated.
-fn head_text(alloc: Global, n: u8, seed: u32, f: &Fabric) -> Result<Vec<u8>, AllocError>
+/// The first line of the summary of a generated run, which says what was generated: `n` hosts from this seed made this
+/// fabric.
+pub fn begin_summary(alloc: Global, n: u8, seed: u32, f: &Fabric) -> Result<Vec<u8>, AllocError>
     ensures { IfOk result (λ text. text.items ≡ line_text f.now
         (GenHead n seed (length f.now.hosts) (length f.now.switches) (length f.now.cables))) }
 {
@@ -42,6 +26,15 @@ fn head_text(alloc: Global, n: u8, seed: u32, f: &Fabric) -> Result<Vec<u8>, All
         cables: f.cables(),
     };
     print_line(alloc, &line, f)
+}
+
+/// The other lines of a summary after the first, from the figures of the run's report, in the names of a fabric.
+pub fn end_summary(text: &mut Vec<u8>, f: &Fabric, figures: &[Figure]) -> Result<(), AllocError>
+    ensures { OnOk result (text.new.items ≡ text.old.items ++ output_text f.now (lines (figure_lines figures.now))) }
+{
+    append_mappings(text, f, figures)?;
+    append_counts(text, f, figures)?;
+    append_settles(text, f, figures)
 }
 
 // The lines of maps, routes and installations.

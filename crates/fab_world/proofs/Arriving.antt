@@ -28,6 +28,8 @@ links-hosts n (LinksChange.repeats k) = tt
 links-hosts n (LinksChange.holds k) = tt
 links-hosts n (LinksChange.flips k) = tt
 links-hosts n (LinksChange.replays k) = tt
+links-hosts n (LinksChange.pulls k) = tt
+links-hosts n (LinksChange.plugs k) = tt
 
 host-hosts : (n : ℕ) {w : WorldState} {e : Event} {x : Effect} {h : ℕ} {m : NodeState} → HostChange w e x h m → IsOfHosts n x
 host-hosts n HostChange.asks = tt
@@ -115,7 +117,7 @@ change-hosts {w = w} (Change.links k) m polled = links-hosts (host_count w) k
 change-hosts (Change.drops packet why d e f) m polled = tt
 change-hosts {w = w} (Change.arrives {c = c} packet h d e f k) m polled = arrival-hosts (host_count w) (subst (λ n. h < n) (sym m.world.hosts) (course-host w.links.cables c packet.wire h m.history e)) k
 change-hosts {w = w} (Change.host k) m polled = host-hosts (host_count w) k
-change-hosts (Change.injects c out d e f g) m polled = tt
+change-hosts (Change.injects c out d e f g allowed) m polled = tt
 change-hosts {w = w} (Change.calls k) m polled = call-hosts (host_count w) k polled
 
 pub effect-hosts : (w : WorldState) (e : Event) → IsMoment w → IsPolledOfHosts (host_count w) e (step w e).0 → IsOfHosts (host_count w) (step w e).0

@@ -1,7 +1,7 @@
 -- What a client's call is as an event of the world.
 use Rattle.std.proofs.Common.{◌≡◌, true, refl}
 use Rattle.world_defs.specs.declared.event.Event.{Event}
-use Rattle.world_defs.specs.declared.event.Event.TheVariants.{Ask, Part, Inject, Advance, Lose, Repeat, Hold, Flip, Replay, Reset, Expire, GiveUp, Begin, Close, Provide, Send, Poll, Revoke}
+use Rattle.world_defs.specs.declared.event.Event.TheVariants.{Ask, Part, Inject, Advance, Lose, Repeat, Hold, Flip, Replay, Reset, Expire, GiveUp, Begin, Close, Provide, Send, Poll, Revoke, Pull, Plug}
 use Rattle.world_defs.specs.declared.effect.Effect.TheVariants.{Said as Says}
 use Rattle.world_defs.specs.declared.effect.Said.{Said}
 use Rattle.world_defs.specs.World.{WorldState, host_count, node_at, client_at}
@@ -32,6 +32,8 @@ call-at w (Reset c) call given = absurd call
 call-at w (Expire h peer) call given = absurd call
 call-at w (GiveUp h) call given = absurd call
 call-at w (Revoke h) call given = absurd call
+call-at w (Pull at) call given = absurd call
+call-at w (Plug a b) call given = absurd call
 call-at w (Begin h port sends recvs) call given = record { there = given.0; given = given.1; is = refl; polled = λ said p. p; memory = λ t. t }
 call-at w (Close h port) call given = record { there = given.0; given = given.1; is = refl; polled = λ said p. p; memory = λ t. t }
 call-at w (Provide h port size prio) call given = record { there = given.0; given = given.1; is = refl; polled = λ said p. p; memory = λ t. t }

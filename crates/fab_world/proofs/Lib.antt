@@ -1,6 +1,9 @@
 pub mod Answers
 pub mod Arriving
 pub mod Calling
+pub mod First
+pub mod Following
+pub mod Going
 pub mod Hearing
 pub mod Hopping
 pub mod HostEvents

@@ -1,11 +1,11 @@
 -- Every event, and every plan of a fault with a pattern of eight bits, leads from one moment of a world to another.
-use Rattle.std.proofs.Common.{◌≡◌, ◌<◌, ◌≤◌, ◌+◌, ℕ, Bool, true, false, List, [], ◌∷◌, length, Option, refl, sym, ◌∙◌, ap, subst, arith, if◌then◌else◌}
+use Rattle.std.proofs.Common.{◌≡◌, ◌<◌, ◌+◌, ℕ, Bool, true, false, List, [], ◌∷◌, length, Option, refl, sym, ◌∙◌, ap, subst, arith, if◌then◌else◌}
 use Rattle.std.specs.Prelude.{Result, Ok, Err, OnOk, OnErr, IfOk, IfSome}
-use Rattle.std.proofs.lemmas.List.{length-set, length-map}
+use Rattle.std.proofs.lemmas.List.{length-set}
 use Rattle.net_defs.specs.declared.route.Route.{Route}
 use Rattle.net_defs.specs.Network.{Network, IsFabric}
-use Rattle.cable_history.specs.History.{CableHistory, IsHistory, first_wire, first_history, fabric_now}
-use Rattle.cable_history.specs.Crossed.{life_channels}
+use Rattle.cable_history.specs.History.{IsHistory, first_history, fabric_now}
+use Rattle.cable_history.proofs.Now.{now_is_fabric}
 use Rattle.cable_history.proofs.First.{first_is_history, first_stands}
 use Rattle.cable_history.proofs.Kept.{accept_keeps}
 use Rattle.link_defs.specs.Links.{LinkState}
@@ -17,10 +17,9 @@ use Rattle.world_defs.specs.declared.fault.Fault.{Fault}
 use Rattle.world_defs.specs.Table.{Adoption, whole_table}
 use Rattle.world_defs.specs.World.{WorldState, fabric_of, host_count, node_at, new_world, planned, keeps_epoch, adoption_of, adopted_by}
 use Rattle.world_defs.specs.Step.{step, after_all}
-use Rattle.world_laws.proofs.Shapes.{step-kept, after_all-kept, new-world, new-senders, planned-world, planned-senders, adopted-world, adopted-senders}
-use Rattle.act_defs.specs.Acts.{Adopts, IsReached}
-use Rattle.act_defs.proofs.Cables.{reached-cables}
-use Rattle.act_defs.proofs.Kept.{acted-net}
+use Rattle.world_laws.proofs.Shapes.{step-kept, new-world, new-senders, planned-world, planned-senders, adopted-world, adopted-senders}
+use Rattle.act_defs.specs.Acts.{Happens}
+use Rattle.act_defs.proofs.Kept.{CablesKept, kept-same, kept-both, acted-kept}
 use Rattle.world_defs.proofs.Kept.{step-adopted, with-all, step-plan}
 use Rattle.world_defs.specs.EightBits.{IsByteFault}
 use Rattle.port_graph.specs.Routes.{AreShort}
@@ -38,7 +37,7 @@ pub later-adopted : (w v : WorldState) → IsLater w v → v.adopted ≡ w.adopt
 later-adopted w v (es, is) = ap (λ u. u.adopted) is ∙ after-adopted w es
 
 step-hosts : (w : WorldState) (e : Event) → IsMoment w → host_count (step w e).1 ≡ host_count w
-step-hosts w e m = ((step-kept w e).world m.world).hosts ∙ ap (λ (h : CableHistory). length h.hosts) (step-kept w e).cables ∙ sym m.world.hosts
+step-hosts w e m = ((step-kept w e).world m.world).hosts ∙ ap length (acted-kept w (Happens e)).hosts ∙ sym m.world.hosts
 
 -- adopted routes are still of the hosts where both stay as they were
 pub set-stays : (hosts now : ℕ) (o p : Option Adoption) → now ≡ hosts → p ≡ o → IfSome o (IsSetOfHosts hosts) → IfSome p (IsSetOfHosts now)
@@ -46,8 +45,8 @@ set-stays hosts now o p e f is = subst (λ k. IfSome p (IsSetOfHosts k)) (sym e)
 
 pub step-moment : (w : WorldState) (e : Event) → IsMoment w → IsMoment (step w e).1
 step-moment w e m = record {
-  history = subst IsHistory (sym (step-kept w e).cables) m.history;
-  fabric = subst IsFabric (ap fabric_now (sym (step-kept w e).cables)) m.fabric;
+  history = (acted-kept w (Happens e)).history m.history;
+  fabric = now_is_fabric (step w e).1.links.cables ((acted-kept w (Happens e)).history m.history);
   world = (step-kept w e).world m.world;
   senders = (step-kept w e).senders m.senders;
   plan = step-plan w e m.plan;
@@ -61,19 +60,16 @@ after-moment w (e ∷ es) m = after-moment (step w e).1 es (step-moment w e m)
 pub later-moment : (w v : WorldState) → IsMoment w → IsLater w v → IsMoment v
 later-moment w v m (es, is) = subst IsMoment (sym is) (after-moment w es m)
 
-later-cables : (w v : WorldState) → IsLater w v → v.links.cables ≡ w.links.cables
-later-cables w v (es, is) = ap (λ u. u.links.cables) is ∙ (after_all-kept w es).cables
+after-cables : (w : WorldState) (es : List Event) → CablesKept w (after_all w es)
+after-cables w [] = kept-same w
+after-cables w (e ∷ es) = kept-both w (step w e).1 (after_all (step w e).1 es) (acted-kept w (Happens e)) (after-cables (step w e).1 es)
 
-pub later-fabric : (w v : WorldState) → IsLater w v → fabric_of v ≡ fabric_of w
-later-fabric w v l = ap fabric_now (later-cables w v l)
+-- cables go on
+pub later-cables : (w v : WorldState) → IsLater w v → CablesKept w v
+later-cables w v (es, is) = subst (CablesKept w) (sym is) (after-cables w es)
 
 pub later-hosts : (w v : WorldState) → IsMoment w → IsLater w v → host_count v ≡ host_count w
-later-hosts w v m l =
-    (later-moment w v m l).world.hosts ∙ ap (λ n. length n.hosts) (later-fabric w v l) ∙ sym m.world.hosts
-
-pub later-channels : (w v : WorldState) → IsMoment w → IsLater w v → length v.links.channels ≡ length w.links.channels
-later-channels w v m l =
-    (later-moment w v m l).world.links.slots ∙ ap life_channels (later-cables w v l) ∙ sym m.world.links.slots
+later-hosts w v m l = (later-moment w v m l).world.hosts ∙ ap length (later-cables w v l).hosts ∙ sym m.world.hosts
 
 -- the world after a step, or after one that ran out of memory
 pub step-later : {E : Type 0} (w v : WorldState) (e : Event) (r : Result Effect E) → IfOk r (λ x. step w e ≡ (x, v)) → OnErr r (v ≡ w) → IsLater w v
@@ -82,13 +78,6 @@ step-later w v e (Err y) is err = ([], err)
 
 new-history : (n : Network) → IsFabric n → IsHistory (first_history n)
 new-history n f = let few = few_cables n f in first_is_history n f (omega (arith, few))
-
--- a world that is reached has the channels of its fabric
-pub few-channels : (w : WorldState) → IsReached (fabric_of w) w → life_channels w.links.cables ≤ 1152
-few-channels w r =
-    let few = few_cables (fabric_of w) r.fabric in
-    let long = ap (λ (h : CableHistory). length h.wires) (reached-cables (fabric_of w) w r) ∙ length-map (fabric_of w).cables first_wire in
-    omega (arith, few, long)
 
 pub new-moment : (n : Network) → IsFabric n → IsMoment (new_world n)
 new-moment n f = record { history = new-history n f; fabric = subst IsFabric (sym (first_stands n 0).0) f; world = new-world n; senders = new-senders n; plan = tt; adopted = tt }
@@ -110,6 +99,10 @@ accepted-history : (s : LinkState) (b : Bool) → IsHistory s.cables → IsHisto
 accepted-history s true is = is
 accepted-history s false is = accept_keeps s.cables is
 
+accepted-fabric : (s : LinkState) (b : Bool) → fabric_now (if b then s else accept s).cables ≡ fabric_now s.cables
+accepted-fabric s true = refl
+accepted-fabric s false = refl
+
 accepted-channels : (s : LinkState) (b : Bool) → length (if b then s else accept s).channels ≡ length s.channels
 accepted-channels s true = refl
 accepted-channels s false = refl
@@ -119,7 +112,7 @@ adopted-moment w mapper routes m low up short may =
     let a : Adoption = adoption_of w mapper routes in
     record {
       history = accepted-history w.links (keeps_epoch w routes) m.history;
-      fabric = subst IsFabric (sym (acted-net w (Adopts mapper routes))) m.fabric;
+      fabric = subst IsFabric (sym (accepted-fabric w.links (keeps_epoch w routes))) m.fabric;
       world = adopted-world w mapper routes m.world;
       senders = adopted-senders w mapper routes m.senders;
       plan = m.plan;
@@ -137,7 +130,7 @@ pub adopt-leaves : {A E : Type 0} (w v : WorldState) (mapper : ℕ) (routes : Li
     → OnOk r (v ≡ adopted_by w mapper routes) → OnErr r (v ≡ w) → IsAdopting w v
 adopt-leaves w v mapper routes (Ok a) m low up short may is err = record {
   moment = subst IsMoment (sym is) (adopted-moment w mapper routes m low up short may);
-  fabric = ap fabric_of is ∙ acted-net w (Adopts mapper routes);
+  fabric = ap fabric_of is ∙ accepted-fabric w.links (keeps_epoch w routes);
   hosts = ap host_count is ∙ adopted-hosts w mapper routes;
   channels = ap (λ u. length u.links.channels) is ∙ accepted-channels w.links (keeps_epoch w routes);
 }

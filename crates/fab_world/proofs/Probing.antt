@@ -1,9 +1,9 @@
 -- A probe that is staged and put into its host's channel at once is an ask and then an injection.
-use Rattle.std.proofs.Common.{◌≡◌, ◌<◌, ◌+◌, ℕ, ℤ, Bool, true, false, List, length, Option, Some, None, refl, sym, ap, subst, ◌∙◌}
+use Rattle.std.proofs.Common.{◌≡◌, ◌<◌, ◌+◌, ℕ, ℤ, Bool, true, false, ◌&&◌, List, length, Option, Some, None, refl, sym, ap, subst, ◌∙◌}
 use Rattle.std.specs.Prelude.{slice_set}
 use Rattle.std.proofs.lemmas.List.{set-set, get_or-set_same}
 use Rattle.net_defs.specs.Route.{host_port}
-use Rattle.cable_history.specs.Crossed.{leaving}
+use Rattle.cable_history.specs.Crossed.{leaving, is_new}
 use Rattle.world_defs.specs.declared.effect.Effect.TheVariants.{Injected, Idle}
 use Rattle.world_defs.specs.Table.{Adoption}
 use Rattle.world_defs.specs.Node.{NodeState, Outgoing, StagedProbe, Probe, new_node, to_send, probe_packet, packet_for, after_sending}
@@ -49,6 +49,11 @@ injected-by : (w : WorldState) (h c : ℕ) → leaving w.links.cables (host_port
 unfolding injected
 injected-by w h c e = ap (inject_into w h) e
 
+-- no cable keeps a probe out
+and-false : (b : Bool) → (b && false) ≡ false
+and-false true = refl
+and-false false = refl
+
 -- the same where the host's channel takes the probe's packet
 probed-in : (w : WorldState) (h c : ℕ) (walk : List ℤ) (looped : Bool) (packet : List ℕ) → h < length w.nodes → leaving w.links.cables (host_port h) ≡ Some c → can_inject (of_world w) c ≡ true
     → packet ≡ probe_packet h (w.injected + 1) walk looped
@@ -62,7 +67,7 @@ probed-in w h c walk looped packet below own free made =
     let bytes : packet_for h (w.injected + 1) out ≡ packet = probe-bytes h (w.injected + 1) walk looped ∙ sym made in
     ap (λ v. injected v h) (asked-is w h walk looped) ∙ injected-by u h c own
     ∙ ap (λ m. inject_one u h c (to_send h m)) at ∙ ap (inject_one u h c) (sends-probe h (node_at w h) walk looped)
-    ∙ injection_is_put u h c out free
+    ∙ injection_is_put u h c out free (and-false (is_new w.links.cables c))
     ∙ ap (λ m. (Injected (w.injected + 1), planned_strikes (put_under_next (with_node u h m) c (packet_for h (w.injected + 1) out)) c)) after
     ∙ ap (λ p. (Injected (w.injected + 1), planned_strikes (put_under_next (with_node u h (record (node_at w h) { staged = None })) c p) c)) bytes
     ∙ ap (λ l. (Injected (w.injected + 1), planned_strikes (put_under_next (record w { nodes = l }) c packet) c)) (set-set w.nodes h n (record (node_at w h) { staged = None }))

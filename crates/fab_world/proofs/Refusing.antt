@@ -21,6 +21,8 @@ links-unrefused (LinksChange.repeats k) = refl
 links-unrefused (LinksChange.holds k) = refl
 links-unrefused (LinksChange.flips k) = refl
 links-unrefused (LinksChange.replays k) = refl
+links-unrefused (LinksChange.pulls k) = refl
+links-unrefused (LinksChange.plugs k) = refl
 
 host-unrefused : {w : WorldState} {e : Event} {x : Effect} {h : ℕ} {m : NodeState} → HostChange w e x h m → is_refusal x ≡ false
 host-unrefused HostChange.asks = refl
@@ -48,7 +50,7 @@ change-unrefused (Change.links k) called = links-unrefused k
 change-unrefused (Change.drops packet why d e f) called = refl
 change-unrefused (Change.arrives packet h d e f k) called = arrival-unrefused k
 change-unrefused (Change.host k) called = host-unrefused k
-change-unrefused (Change.injects c out d e f g) called = refl
+change-unrefused (Change.injects c out d e f g allowed) called = refl
 change-unrefused (Change.calls k) called = call-unrefused k called
 
 -- an event is not refused where none is that is a client's call

@@ -3,7 +3,7 @@ use Rattle.std.specs.Prelude.{◌≡◌, ℕ, ◌≤◌, ◌<◌, Bool, true, fa
 use Rattle.world_defs.specs.declared.event.Event.{Event}
 use Rattle.world_defs.specs.declared.event.Event.TheVariants.{Ask, Part, Inject, Advance, Lose, Repeat, Hold, Flip}
 use Rattle.world_defs.specs.declared.event.Event.TheVariants.{Replay, Reset, Expire, GiveUp, Begin, Close, Provide}
-use Rattle.world_defs.specs.declared.event.Event.TheVariants.{Send, Poll, Revoke}
+use Rattle.world_defs.specs.declared.event.Event.TheVariants.{Send, Poll, Revoke, Pull, Plug}
 use Rattle.world_defs.specs.World.{WorldState, host_count}
 use Rattle.client_host.specs.Calls.{call_takes_memory}
 
@@ -37,6 +37,8 @@ IsGiven w (Send h port dest dport prio len seed) =
     IsHostOf w h × IsHostOf w dest × (port < 8) × (dport < 8) × (prio < 2)
 IsGiven w (Poll h port) = IsHostOf w h × (port < 8)
 IsGiven w (Revoke h) = IsHostOf w h
+IsGiven w (Pull at) = Unit {0}
+IsGiven w (Plug a b) = Unit {0}
 
 -- an event may take memory: of the calls of clients those that may
 abbrev pub takes_memory : Event → Bool
@@ -46,4 +48,6 @@ takes_memory (Reset c) = false
 takes_memory (Expire h peer) = false
 takes_memory (GiveUp h) = false
 takes_memory (Revoke h) = false
+takes_memory (Pull at) = false
+takes_memory (Plug a b) = true
 takes_memory e = call_takes_memory e

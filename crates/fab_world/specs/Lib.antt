@@ -1,4 +1,5 @@
 pub mod Events
+pub mod Following
 pub mod Held
 pub mod Hop
 pub mod Moments

@@ -3,8 +3,9 @@
 //!
 //! [`World::step`] answers exactly the effect and leaves exactly the world of the definition `step` of `world_defs`.
 //! So each law of worlds after every list of events is a law of this one. `specs/Events.antt` says which events may
-//! be given. Routes are adopted by epochs: others only once each host gave up the epoch that stands.
-//! `specs/Adopting.antt` of `adopted_routes` says which may be.
+//! be given. Cables come and go, and the fabric with them: what a World keeps and hands out is the one that stands.
+//! Routes are adopted by epochs: others only once each host gave up the epoch that stands. `specs/Adopting.antt` of
+//! `adopted_routes` says which may be.
 //!
 //! ```text
 //!             World                      hosts and links, each at its own
@@ -16,14 +17,16 @@
 //!
 //! | module | has |
 //! |---|---|
+//! | `changing` | each event, and the fabric that follows it |
 //! | `eight_bits` | the pattern of a flip is a byte |
 //! | `host_marks` | which hosts are looked at |
 //! | `hosts` | whether a host has nothing to do |
-//! | `machine` | links, hosts and adopted routes, and each event of theirs |
+//! | `machine` | links, hosts and adopted routes, and what each event does to them |
 //! | `unacknowledged` | how many fragments aren't acknowledged |
 //! | `world` | the world: what it keeps, and every event |
 #![tactic(auto)]
 
+mod changing;
 mod eight_bits;
 mod host_marks;
 mod hosts;

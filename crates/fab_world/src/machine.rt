@@ -7,6 +7,7 @@ ghost use Rattle.fab_world.specs.Events.{IsHostOf};
 ghost use Rattle.fab_world.specs.Resting.{IsNextAwake, IsNextBusy, IsSilentIn, RestsIn};
 
 mod adopting;
+mod cables;
 mod calls;
 mod dispatch;
 mod epochs;

@@ -1,15 +1,24 @@
 -- The run of a generated text.
-use Rattle.std.proofs.Common.{◌≡◌, ◌<◌, ℕ, suc, List, [], ◌++◌, length, take, get_or, refl, ap, sym, subst, ◌∙◌}
+use Rattle.std.proofs.Common.{◌≡◌, ◌<◌, ℕ, suc, List, [], ◌++◌, length, take, get_or, Result, Ok, Err, IfOk, refl, ap, sym, subst, ◌∙◌}
 use Rattle.std.proofs.lemmas.Grind.{flat_map-append}
 use Rattle.net_defs.specs.Network.{Network}
 use Rattle.run_defs.specs.declared.command.Command.{Command}
+use Rattle.world_defs.specs.World.{fabric_of}
 use Rattle.run_defs.specs.declared.figure.Figure.{Figure}
+use Rattle.run_defs.specs.declared.line.Line.TheVariants.{GenHead}
+use Rattle.run_defs.specs.LineText.{line_text, output_text}
+use Rattle.run_defs.specs.Output.{lines}
 use Rattle.run_defs.specs.Session.{SessionState, new_session}
-use Rattle.run_defs.specs.Run.{Runs}
+use Rattle.run_defs.specs.Run.{Runs, IsRun}
 use Rattle.run_defs.specs.Run.Runs.{ended}
 use Rattle.run_defs.specs.Summary.{figures_in, piece_figures}
 use Rattle.run_laws.proofs.RunsOnce.{runs-more}
-use Rattle.fabric_run.specs.Generated.{IsCounted, HaveCounted}
+use Rattle.fab_report.specs.Printed.{figure_lines}
+use Rattle.fabric_gen.specs.Text.{gen_text}
+use Rattle.input_texts.specs.Reading.{AcceptedText, IsAccepted}
+use Rattle.fabric_run.specs.Ends.{HasVerticesOf}
+use Rattle.fabric_run.specs.Generated.{IsCounted, HaveCounted, IsGenerated}
+use Rattle.fabric_run.proofs.Naming.{summary-named}
 use Rattle.fabric_run.proofs.Writing.{take-one}
 
 -- nothing was counted where nothing ran
@@ -28,3 +37,24 @@ more-counted n cs i s next c before now low at ran one = record {
   run = subst (λ l. Runs (new_session n) l (ran.output ++ one.output) next) (sym (take-one cs i c low at)) (runs-more c one.output ran.run one.does);
   counted = one.counted ∙ ap (λ ks. ks ++ figures_in one.output) ran.counted ∙ sym (flat_map-append piece_figures ran.output one.output);
 }
+
+-- the run of a generated text, whose summary is the line of its fabric and what its figures show
+pub generated-so : (hosts seed : ℕ) (a : AcceptedText) (n : Network) (s last : SessionState) (figures shown : List Figure) (head due : List ℕ) → IsAccepted (gen_text hosts seed) a → HaveCounted a.network a.commands figures s → HasVerticesOf a.network s
+    → n ≡ a.network → head ≡ line_text n (GenHead hosts seed (length n.hosts) (length n.switches) (length n.cables)) → shown ≡ figures → last ≡ s
+    → due ≡ head ++ output_text (fabric_of s.world) (lines (figure_lines shown)) → IsGenerated hosts seed due last
+generated-so hosts seed a n s last figures shown head due accepted counted stay net first same led is = record {
+  says = a;
+  accepted = accepted;
+  run = record {
+    output = counted.output;
+    run = subst (IsRun a.network a.commands counted.output) (sym led) counted.run;
+    told = summary-named hosts seed a.network s (figures_in counted.output) head due stay
+        (subst (λ k. head ≡ line_text k (GenHead hosts seed (length k.hosts) (length k.switches) (length k.cables))) net first)
+        (is ∙ ap (λ ks. head ++ output_text (fabric_of s.world) (lines (figure_lines ks))) (same ∙ counted.counted));
+  };
+}
+
+-- what an answer says where it is `Ok`, from two things that it says
+pub both-ok : {T E : Type 0} (r : Result T E) (P Q R : T → Type 0) → IfOk r P → IfOk r Q → ((x : T) → P x → Q x → R x) → IfOk r R
+both-ok (Ok x) P Q R p q f = f x p q
+both-ok (Err e) P Q R p q f = p

@@ -1,5 +1,5 @@
 -- Injections are left to the end of every accepted text within the limit: it has no more commands than bytes.
-use Rattle.std.proofs.Common.{◌≡◌, ◌<◌, ◌≤◌, ◌+◌, ◌*◌, ◌^◌, ◌&&◌, ℕ, zero, suc, Bool, true, false, not, List, [], ◌∷◌, ◌++◌, length, take, drop, filter, Result, Ok, Err, Some, refl, ap, subst, arith, length-append, if◌then◌else◌}
+use Rattle.std.proofs.Common.{◌≡◌, ◌<◌, ◌≤◌, ◌+◌, ◌^◌, ◌&&◌, ℕ, zero, suc, Bool, true, false, not, List, [], ◌∷◌, ◌++◌, length, take, drop, Result, Ok, Err, Some, refl, subst, arith, length-append, if◌then◌else◌}
 use Rattle.std.specs.Prelude.{slice_get}
 use Rattle.std.specs.List.{AllByRecursion}
 use Rattle.net_defs.specs.Network.{Network}
@@ -7,12 +7,12 @@ use Rattle.net_defs.proofs.Distinct.{all-push}
 use Rattle.world_defs.specs.World.{last_count}
 use Rattle.fab_text.specs.declared.fault.FaultKind.{FaultKind}
 use Rattle.fab_text.specs.Fault.{FirstFault, and_then, at_line}
-use Rattle.fab_text.specs.Line.{TextLine, is_line_end, is_return, begins_with_end, onto_first_line, lines_from, words_of, says_nothing, saying, lines_left, line_count}
+use Rattle.fab_text.specs.Line.{TextLine, is_line_end, is_return, begins_with_end, onto_first_line, lines_from, words_of, says_nothing, saying, line_count}
 use Rattle.fabric_file.specs.declared.reading.FabricText.{FabricText}
 use Rattle.fabric_file.specs.Reading.{fabric_reading}
 use Rattle.fabric_file.proofs.Names.{all-nth}
 use Rattle.run_defs.specs.declared.command.Command.{Command}
-use Rattle.run_defs.specs.declared.command.Command.TheVariants.{Install, Finish}
+use Rattle.run_defs.specs.declared.command.Command.TheVariants.{Finish}
 use Rattle.run_defs.specs.Script.{command_of, is_end, ended, script_from, script_reading}
 use Rattle.run_defs.specs.Output.{Piece}
 use Rattle.run_defs.specs.Session.{SessionState}
@@ -128,8 +128,8 @@ module _ (text : List ℕ) (a : AcceptedText) (within : length text ≤ input_li
         missed = λ k out rest s next tries acked total r at does.
             let low = left-behind k out _ s next _ r at does in
             let line = p.installed k out rest s next tries acked total r at does in
-            (line.last, line.are, line.cause low, λ same. p.unharmed k out rest s next tries acked total r at does low same);
+            (line.last, line.are, line.cause low, λ same calm. p.unharmed k out rest s next tries acked total r at does low same calm);
         settled = λ k out rest s next rounds resets unacked r at does.
             let low = left-behind k out _ s next _ r at does in
-            ((p.settled k out rest s next rounds resets unacked r at does).settled low, λ enough. p.delivered k out rest s next rounds resets unacked r at does low enough);
+            ((p.settled k out rest s next rounds resets unacked r at does).settled low, λ enough paths. p.delivered k out rest s next rounds resets unacked r at does low enough paths);
       }

@@ -1,5 +1,5 @@
 -- What every accepted text promises, from the laws of runs: its commands are over its fabric, and so are its first commands.
-use Rattle.std.proofs.Common.{◌≡◌, ◌<◌, ◌≤◌, ◌-◌, ℕ, zero, suc, Bool, true, false, List, [], ◌∷◌, length, take, drop, Option, Some, None, Result, Ok, Err, refl, sym, ap, subst, ◌∙◌, arith, if◌then◌else◌}
+use Rattle.std.proofs.Common.{◌≡◌, ◌⊎◌, ◌<◌, ◌≤◌, ◌-◌, ℕ, zero, suc, Bool, true, false, List, [], ◌∷◌, length, take, drop, Option, Some, None, Result, Ok, Err, refl, sym, ap, subst, ◌∙◌, arith, if◌then◌else◌}
 use Rattle.std.specs.List.{AllByRecursion}
 use Rattle.net_defs.specs.Network.{Network, IsFabric}
 use Rattle.net_defs.proofs.Distinct.{all-weaker}
@@ -42,13 +42,13 @@ use Rattle.settle_line_laws.proofs.Lines.{run-can_settle, line-true as settled-t
 use Rattle.mapping_laws.specs.Runs.{IsSessionOf}
 use Rattle.mapping_laws.proofs.Made.{doubtful_was_harmed}
 use Rattle.mapping_laws.proofs.Sessions.{can-map-now, run_keeps_world}
-use Rattle.mapping_laws.proofs.Printed.{circuit_maps_are_true, deep_circuit_maps_are_cores}
+use Rattle.mapping_laws.proofs.Printed.{circuit_maps_are_true}
 use Rattle.print_laws.proofs.Pieces.{complete_maps_read_back, circuit_maps_read_back}
 use Rattle.message_laws.specs.Got.{IsAllGot}
 use Rattle.message_laws.proofs.Fillings.{coming-tied}
 use Rattle.seen_laws.proofs.Fronts.{polled-front}
 use Rattle.return_laws.proofs.Returned.{events-of_tokens, polls-of_tokens}
-use Rattle.delivery_laws.specs.Delivery.{HasEnough}
+use Rattle.delivery_laws.specs.Delivery.{HasEnough, HasPaths}
 use Rattle.delivery_laws.proofs.Delivered.{settle-delivers}
 use Rattle.promise_laws.proofs.Said.{said-command, said-act}
 use Rattle.promise_laws.proofs.Sound.{always_promised}
@@ -129,10 +129,13 @@ abbrev output-of : Option Outcome → List Piece
 output-of None = []
 output-of (Some o) = o.output
 
--- a map that prints doubtful met a planned fault
-does-doubt : {s next : SessionState} {c : Command} {out : List Piece} → (n : Network) (host depth tries drowned asks packets : ℕ) (rest : List Piece) → IsFabric n → IsCommandOf n c → IsSessionOf n s → c ≡ Map host depth tries → 1 ≤ tries
-    → out ≡ OneLine (MapLine host (Doubtful drowned) asks packets) ∷ rest → next.world.injected < last_count → Does s c out next → s.world.harmed < next.world.harmed
-does-doubt {s = s} {next = next} {out = out} n host depth tries drowned asks packets rest f of_n session same some says left (determined e) = by (is_idle s.world.links) refl
+-- what a map met that prints doubtful: a planned fault, or a change of cables
+abbrev WasDoubted : WorldState → WorldState → Type 0
+WasDoubted w v = (w.harmed < v.harmed) ⊎ (w.links.cables.changes < v.links.cables.changes)
+
+does-doubt : {s next : SessionState} {c : Command} {out : List Piece} → (n : Network) (host depth tries drowned asks packets : ℕ) (rest : List Piece) → IsCommandOf n c → IsSessionOf n s → c ≡ Map host depth tries → 1 ≤ tries
+    → out ≡ OneLine (MapLine host (Doubtful drowned) asks packets) ∷ rest → next.world.injected < last_count → Does s c out next → WasDoubted s.world next.world
+does-doubt {s = s} {next = next} {out = out} n host depth tries drowned asks packets rest of_n session same some says left (determined e) = by (is_idle s.world.links) refl
   where
     got : Outcome
     got = record { output = out; after = next }
@@ -140,7 +143,7 @@ does-doubt {s = s} {next = next} {out = out} n host depth tries drowned asks pac
     now : outcome s (Map host depth tries) ≡ Some got
     now = sym (ap (outcome s) same) ∙ e
 
-    by : (idle : Bool) → is_idle s.world.links ≡ idle → s.world.harmed < next.world.harmed
+    by : (idle : Bool) → is_idle s.world.links ≡ idle → WasDoubted s.world next.world
     by true i =
         let none : outcome s (Map host depth tries) ≡ None = ap (λ b. if b then None else Some (says_only s (MapBusy host ∷ []))) i in
         let bad : None ≡ Some got = sym none ∙ now in
@@ -149,23 +152,23 @@ does-doubt {s = s} {next = next} {out = out} n host depth tries drowned asks pac
         let busy : outcome s (Map host depth tries) ≡ Some (says_only s (MapBusy host ∷ [])) = ap (λ b. if b then None else Some (says_only s (MapBusy host ∷ []))) i in
         let bad : OneLine (MapBusy host) ∷ [] ≡ OneLine (MapLine host (Doubtful drowned) asks packets) ∷ rest = ap output-of (sym busy ∙ now) ∙ says in
         cc
-does-doubt {s = s} {next = next} n host depth tries drowned asks packets rest f of_n session same some says left (maps {host = h} {depth = d} {tries = t} after j m words none made printed last) =
+does-doubt {s = s} {next = next} n host depth tries drowned asks packets rest of_n session same some says left (maps {host = h} {depth = d} {tries = t} after j m words none made printed last) =
     let tried : t ≡ tries = cc in
     let world : after ≡ next.world = sym (ap (λ (x : SessionState). x.world) last) in
     let both : OneLine (MapLine h words (length j) (after.injected - s.world.injected)) ∷ map_pieces words m ≡ OneLine (MapLine host (Doubtful drowned) asks packets) ∷ rest = sym printed ∙ says in
     let called : words ≡ Doubtful drowned = cc in
     let here : IsMapped h d t s.world next.world j m (Doubtful drowned) = subst (λ w. IsMapped h d t s.world w j m (Doubtful drowned)) world (subst (λ x. IsMapped h d t s.world after j m x) called made) in
-    doubtful_was_harmed h d t drowned s.world next.world j m (can-map-now n s h d t f of_n session none) here (omega (arith, some, tried)) left
-does-doubt n host depth tries drowned asks packets rest f of_n session same some says left (circuits told last) = cc
-does-doubt n host depth tries drowned asks packets rest f of_n session same some says left (routes l found complete are printed last) = cc
+    doubtful_was_harmed h d t drowned s.world next.world j m (can-map-now n s h d t of_n session none) here (omega (arith, some, tried)) left
+does-doubt n host depth tries drowned asks packets rest of_n session same some says left (circuits told last) = cc
+does-doubt n host depth tries drowned asks packets rest of_n session same some says left (routes l found complete are printed last) = cc
 
 -- a settle with tokens enough before it
-settle-got-all : (s next : SessionState) (rounds resets unacked : ℕ) → CanSettle s.world → IsSettledLine s next rounds resets unacked → next.world.injected < last_count → HasEnough s.world → (unacked ≡ 0) × IsAllGot next.world
-settle-got-all s next rounds resets unacked can line left enough =
+settle-got-all : (s next : SessionState) (rounds resets unacked : ℕ) → CanSettle s.world → IsSettledLine s next rounds resets unacked → next.world.injected < last_count → HasEnough s.world → HasPaths s.world next.world → (unacked ≡ 0) × IsAllGot next.world
+settle-got-all s next rounds resets unacked can line left enough paths =
     let w : WorldState = s.world in
     let after : next.world ≡ (settle w).world = line.after in
     let low : (settle w).world.injected < last_count = subst (λ (v : WorldState). v.injected < last_count) after left in
-    let all = settle-delivers w can low enough in
+    let all = settle-delivers w can low enough (subst (HasPaths w) after paths) in
     (line.left ∙ ap unacknowledged_in after ∙ all.0, subst IsAllGot (sym after) all.1)
 
 -- every accepted text has its report
@@ -213,25 +216,24 @@ text_promised text a e =
           does-print host depth tries refl quiet.idle (λ j m words made. deep k out s host depth tries next.world j m words r of_n.0 is.1.1 made quiet is.2.0 is.2.1 enough) does;
       doubtful = λ k out rest s next host depth tries drowned asks packets r at does left.
           let is : IsSaid n (Map host depth tries) = all-nth (IsSaid n) cs k (Map host depth tries) o.said at in
-          does-doubt n host depth tries drowned asks packets rest o.fabric (said-command n (Map host depth tries) is) (run_keeps_world n (take k cs) out s o.fabric (commands k) r) refl is.2.0 refl left does;
+          does-doubt n host depth tries drowned asks packets rest (said-command n (Map host depth tries) is) (run_keeps_world n (take k cs) out s o.fabric (commands k) r) refl is.2.0 refl left does;
       stands = λ host words m p. printed_maps_stand n (take p.count cs) host words m o.fabric (printed-after host words m p);
-      one_map = λ host m x p q. complete_maps_are_one n (take p.count cs) (take q.count cs) host m x o.fabric (printed-after host Complete m p) (printed-after host Complete x q);
+      one_map = λ host m x p q same. complete_maps_are_one n (take p.count cs) (take q.count cs) host m x o.fabric (printed-after host Complete m p) (printed-after host Complete x q) same;
       marks = λ host m p same v low. marks_are_right n (take p.count cs) host m o.fabric (printed-after host Complete m p) same v low;
       routes = λ k out printed s next r at does. printed_routes_are_right n (take k cs) out printed s next o.fabric (commands k) r does;
       circuits = λ k out last host depth asks m r p. record {
         told = circuit_maps_are_true n (take k cs) out last host depth asks m o.fabric (commands k) r p;
-        core = λ es paths enough. deep_circuit_maps_are_cores n (take k cs) out last host depth asks m es o.fabric (commands k) r p paths enough;
         read_back = (circuit_maps_read_back n (take k cs) out last host depth asks m o.fabric o.named (commands k) r p).read;
       };
       installed = installed;
-      unharmed = λ k out rest s next tries acked total r at does left same.
+      unharmed = λ k out rest s next tries acked total r at does left same calm.
           let is : IsSaid n (Install tries) = all-nth (IsSaid n) cs k (Install tries) o.said at in
           let some : 1 ≤ tries = is.0 in
-          (installed k out rest s next tries acked total r at does).unharmed (omega (arith, some)) left same;
+          (installed k out rest s next tries acked total r at does).unharmed (omega (arith, some)) left same calm;
       settled = λ k out rest s next rounds resets unacked r at does. settled-true n (take k cs) out rest s next rounds resets unacked o.fabric (acts k) r does;
-      delivered = λ k out rest s next rounds resets unacked r at does left enough.
+      delivered = λ k out rest s next rounds resets unacked r at does left enough paths.
           settle-got-all s next rounds resets unacked (run-can_settle n (take k cs) out s o.fabric (acts k) r).1
-          (settled-true n (take k cs) out rest s next rounds resets unacked o.fabric (acts k) r does) left enough;
+          (settled-true n (take k cs) out rest s next rounds resets unacked o.fabric (acts k) r does) left enough paths;
       behind = λ k out last r. runs_end_sound n (take k cs) out last o.fabric (acts k) r;
       reached = λ k out last r. run_is_reached n (take k cs) out last o.fabric (acts k) r;
       acts = λ k out printed s next c r at does.

@@ -21,7 +21,8 @@ use Rattle.promise_laws.specs.Duos.{IsDuoLeft}
 use Rattle.promise_laws.specs.Existence.{HasRun}
 use Rattle.run_session.specs.Obeyed.{IsObeyed}
 use Rattle.input_texts.specs.Reading.{AcceptedText}
-use Rattle.fabric_run.specs.Ends.{HaveRun, IsPartOfReport, IsReported, IsCutOff, IsInterrupted}
+use Rattle.fabric_run.specs.Ends.{HasVerticesOf, HaveRun, IsPartOfReport, IsReported, IsCutOff, IsInterrupted}
+use Rattle.fabric_run.proofs.Naming.{output-named}
 
 -- a count that rose since a later moment rose
 pub rose-earlier : (before between now : ℕ) → before ≤ between → Rose between now → Rose before now
@@ -58,27 +59,27 @@ none-ran n cs taken s e = record {
 }
 
 -- the text of what was printed before a command and by it
-output-on : (n m : Network) (before own : List Piece) → m ≡ n → output_text n (before ++ own) ≡ output_text n before ++ output_text m own
-output-on n m before own e = text_of_both n before own ∙ ap (λ k. output_text n before ++ output_text k own) (sym e)
+output-on : (n : Network) (s : SessionState) (before own : List Piece) → HasVerticesOf n s → output_text n (before ++ own) ≡ output_text n before ++ output_text (fabric_of s.world) own
+output-on n s before own same = text_of_both n before own ∙ ap (λ l. output_text n before ++ l) (sym (output-named n s own same))
 
 -- one command more ran, and its text was taken
 pub more-ran : (n : Network) (cs : List Command) (i : ℕ) (taken between now : Option (List ℕ)) (s next : SessionState) (c : Command) (p : PrintedState) → i < length cs → c ≡ get_or cs i c
-    → HaveRun n (take i cs) taken between s → fabric_of s.world ≡ n → IsObeyed s c next p → Appends between now p.text → HaveRun n (take (suc i) cs) taken now next
-more-ran n cs i taken between now s next c p low at ran net does took = record {
+    → HaveRun n (take i cs) taken between s → HasVerticesOf n s → IsObeyed s c next p → Appends between now p.text → HaveRun n (take (suc i) cs) taken now next
+more-ran n cs i taken between now s next c p low at ran same does took = record {
   output = ran.output ++ does.output;
   run = subst (λ l. Runs (new_session n) l (ran.output ++ does.output) next) (sym (take-one cs i c low at)) (runs-more c does.output ran.run does.does);
-  took = subst (Appends taken now) (ap (λ (q : PrintedState). output_text n ran.output ++ q.text) does.printed ∙ sym (output-on n (fabric_of s.world) ran.output does.output net))
+  took = subst (Appends taken now) (ap (λ (q : PrintedState). output_text n ran.output ++ q.text) does.printed ∙ sym (output-on n s ran.output does.output same))
       (Appends-trans taken between now (output_text n ran.output) p.text ran.took took);
 }
 
 -- one command more ran, and the front of its text was taken
 pub cut-ran : (n : Network) (cs : List Command) (i : ℕ) (taken between now : Option (List ℕ)) (s next : SessionState) (c : Command) (p : PrintedState) → i < length cs → c ≡ get_or cs i c
-    → HaveRun n (take i cs) taken between s → fabric_of s.world ≡ n → IsObeyed s c next p → TakesProperPrefix between now p.text
+    → HaveRun n (take i cs) taken between s → HasVerticesOf n s → IsObeyed s c next p → TakesProperPrefix between now p.text
     → IsCutOff (record { network = n; commands = cs }) taken now (Some next)
-cut-ran n cs i taken between now s next c p low at ran net does took =
+cut-ran n cs i taken between now s next c p low at ran same does took =
     let run : Runs (new_session n) (take (suc i) cs) (ran.output ++ does.output) next =
     subst (λ l. Runs (new_session n) l (ran.output ++ does.output) next) (sym (take-one cs i c low at)) (runs-more c does.output ran.run does.does) in
-    let own : output_text n does.output ≡ took.0 ++ took.1 = ap (λ k. output_text k does.output) (sym net) ∙ sym (ap (λ (q : PrintedState). q.text) does.printed) ∙ took.2 in
+    let own : output_text n does.output ≡ took.0 ++ took.1 = sym (output-named n s does.output same) ∙ sym (ap (λ (q : PrintedState). q.text) does.printed) ∙ took.2 in
     let front : Appends taken now (output_text n ran.output ++ took.0) = Appends-trans taken between now (output_text n ran.output) took.0 ran.took took.4 in
     record {
       count = i;

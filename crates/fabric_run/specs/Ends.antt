@@ -19,6 +19,10 @@ use Rattle.fabric_run.specs.declared.status.Status.TheVariants.{Done, Usage, Ref
 use Rattle.fabric_run.specs.declared.status.Status.TheVariants.{TooLong}
 use Rattle.input_texts.specs.Reading.{AcceptedText, reading, sound_lines, input_limit, IsAccepted, IsRefused, refusal_text}
 
+-- a session has the hosts and the switches of a fabric: of its cables some may have gone, or be others
+abbrev pub HasVerticesOf : Network → SessionState → Type 0
+HasVerticesOf n s = (s.world.links.cables.hosts ≡ n.hosts) × (s.world.links.cables.switches ≡ n.switches)
+
 -- A text came whole: nothing of it is left, and it is within the limit.
 abbrev pub Came : Option (List ℕ) → Option (List ℕ) → List ℕ → Type 0
 Came before now text = IsWhole before now text × (length text ≤ input_limit)

@@ -4,15 +4,19 @@ ghost use Rattle.std.specs.Prelude.{◌≡◌, ◌≤◌, ◌++◌, IfOk, OnOk};
 ghost use Rattle.std.specs.List.{AllByRecursion};
 ghost use Rattle.world_defs.specs.World.{fabric_of};
 ghost use Rattle.run_defs.specs.Session.{new_session};
-ghost use Rattle.fab_report.specs.Printed.{listed};
+ghost use Rattle.run_defs.specs.LineText.{output_text};
+ghost use Rattle.run_defs.specs.Output.{lines};
+ghost use Rattle.fab_report.specs.Printed.{listed, figure_lines};
 ghost use Rattle.fab_script.specs.Ranges.{IsCommandOf};
-ghost use Rattle.fabric_run.specs.Generated.{IsCounted, HaveCounted, IsSummaryOf, IsGenerated};
+ghost use Rattle.promise_laws.specs.OneAction.{VerticesStay};
+ghost use Rattle.fabric_run.specs.Ends.{HasVerticesOf};
+ghost use Rattle.fabric_run.specs.Generated.{IsCounted, HaveCounted, IsGenerated};
 ghost use Rattle.fabric_run.specs.Generated.{SummaryEnds, GenEnds};
 
 use crate::ran::Ran;
 use crate::status::Status;
 use fab_outer::{Sink, write_all};
-use fab_report::{Figure, print_summary};
+use fab_report::{Figure, begin_summary, end_summary};
 use input_texts::{Accepted, read_generated};
 use run_session::{Command, Session};
 use std::alloc::{AllocError, Global};
@@ -40,34 +44,35 @@ fn run_text(alloc: Global, n: u8, seed: u32) -> Result<(Session, Vec<u8>), Alloc
     ensures { IfOk result (λ r. IsGenerated n seed r.1.items r.0) }
 {
     let accepted = read_generated(alloc, n, seed)?;
+    let head = begin_summary(alloc, n, seed, &accepted.fabric)?;
     let (session, figures) = run_accepted(alloc, accepted)?;
-    with_summary(alloc, n, seed, session, &figures)
+    with_figures(head, session, &figures)
 }
 
 // The session after all commands of what a text says, and the figures of what they printed.
 fn run_accepted(alloc: Global, accepted: Accepted) -> Result<(Session, Vec<Figure>), AllocError>
     requires over { AllByRecursion (IsCommandOf accepted.network) accepted.commands }
     ensures counted { IfOk result (λ r. HaveCounted accepted.network accepted.commands r.1.items r.0) }
-    ensures fabric { IfOk result (λ r. fabric_of r.0.world ≡ accepted.network) }
+    ensures vertices { IfOk result (λ r. HasVerticesOf accepted.network r.0) }
 {
     let Accepted { fabric, script } = accepted;
     let session = Session::new(alloc, fabric)?;
     run_commands(alloc, session, script.list())
 }
 
-// A session, and the summary of the figures that its commands printed.
-fn with_summary(
-    alloc: Global,
-    n: u8,
-    seed: u32,
+// A session, and the summary that begins with this line and has the figures that the session's commands printed.
+fn with_figures(
+    head: Vec<u8>,
     session: Session,
     figures: &[Figure],
 ) -> Result<(Session, Vec<u8>), AllocError>
     ensures same { IfOk result (λ r. r.0 ≡ session) }
-    ensures told { IfOk result (λ r. IsSummaryOf n seed (fabric_of session.world) figures.now r.1.items) }
+    ensures told { IfOk result (λ r. r.1.items ≡ head.items
+        ++ output_text (fabric_of session.world) (lines (figure_lines figures.now))) }
 {
-    match print_summary(alloc, n, seed, session.world().fabric(), figures) {
-        Ok(summary) => Ok((session, summary)),
+    let mut summary = head;
+    match end_summary(&mut summary, session.world().fabric(), figures) {
+        Ok(()) => Ok((session, summary)),
         Err(wanting) => {
             session.end();
             Err(wanting)
@@ -84,7 +89,7 @@ fn run_commands(
     requires fresh { session ≡ new_session (fabric_of session.world) }
     requires over { AllByRecursion (IsCommandOf (fabric_of session.world)) commands.now }
     ensures counted { IfOk result (λ r. HaveCounted (fabric_of session.world) commands.now r.1.items r.0) }
-    ensures fabric { IfOk result (λ r. fabric_of r.0.world ≡ fabric_of session.world) }
+    ensures vertices { IfOk result (λ r. HasVerticesOf (fabric_of session.world) r.0) }
 {
     let mut figures = Vec::new(alloc);
     for command in commands {
@@ -102,7 +107,7 @@ fn run_command(
 ) -> Result<Session, AllocError>
     requires command { IsCommandOf (fabric_of session.world) command.now }
     ensures counted { IfOk result (λ next. IsCounted session command.now next figures.old.items figures.new.items) }
-    ensures fabric { IfOk result (λ next. fabric_of next.world ≡ fabric_of session.world) }
+    ensures vertices { IfOk result (λ next. VerticesStay session.world next.world) }
 {
     match session.perform(alloc, command) {
         Ok((next, printed)) => keep_figure(next, printed.figure(), figures),

@@ -101,23 +101,25 @@ pub fn run<S: Source, K: Sink>(alloc: Global, words: &[Word], input: &mut S, out
     // Where no command may have run, no session is handed back.
     ensures no_session { may_hold result.status ≡ false → result.session ≡ None }
 
-    // Every accepted text, and so every prefix of its script, keeps the promise: a map under the word complete is
-    // right, with its marks, and one host's are one map; a deep one of a quiet fabric says so; a doubtful one has its
-    // cause while injections are left; whatever vertex or cable a map shows is there; printed routes lead where they
-    // say, with ranks that rise; a map of circuit links is the circuit map to its depth. Each count of installed hosts
-    // has its cause, and no more are counted than have their table; each settle ends settled, with all got where there
-    // were tokens enough; the installed routes have no cycle. What polls hand out is a prefix of what sends were
-    // accepted with, and what lines `received` show of what `send` lines with a token handed in; each send token comes
-    // back with its own message. Each command is acts, each one action of one host or of one channel. Every moment of
-    // the run is sound, and reached by acts that may happen: the world after its first commands, and after each prefix
-    // of the acts of the next one. The two hosts that restart are reached by their events, where an incarnation's
-    // number survives its host's restart: what each incarnation got is a prefix of what it was sent, each token has one
-    // owner, and polls that print sent, or unsure, are right.
+    // Every accepted text, and so every prefix of its script, keeps the promise. Of the fabric before its command, a
+    // map under the word complete is right, with its marks, and one host's are one map while the fabric stands alike; a
+    // deep one of a quiet fabric says so; a doubtful one has its cause while injections are left; whatever vertex or
+    // cable a map shows was there; a map of circuit links is the circuit map to its depth. Printed routes led where
+    // they say as their map began, with ranks that rise. Each count of installed hosts has its cause, and no more are
+    // counted than have their table; each settle ends settled, with all got where there were tokens enough and the
+    // routes are whole; the installed routes have no cycle. What polls hand out is a prefix of what sends were accepted
+    // with, and what lines `received` show of what `send` lines with a token handed in; each send token comes back with
+    // its own message. Each command is acts, each one action of one host, of one channel or of one cable. Every moment
+    // of the run is sound, and reached by acts that may happen: the world after its first commands, and after each
+    // prefix of the acts of the next one. The two hosts that restart are reached by their events, where an
+    // incarnation's number survives its host's restart: what each incarnation got is a prefix of what it was sent, each
+    // token has one owner, and polls that print sent, or unsure, are right.
     ensures promise { (text : List ℕ) (a : AcceptedText) → IsAccepted text a → IsPromised a }
 
     // Where the text is within the limit of an input, all its commands together inject fewer than 2^63 packets. So its
-    // doubtful maps and the hosts that its installations don't count have met faults, each of its settles ends settled,
-    // and one with tokens enough delivers all: no injections need to be left for that.
+    // doubtful maps and the hosts that its installations don't count have met faults or lost cables, each of its
+    // settles ends settled, and one with tokens enough delivers all over whole routes: no injections need to be left
+    // for that.
     ensures left { (text : List ℕ) (a : AcceptedText) → length text ≤ input_limit → IsAccepted text a
         → HasInjectionsLeft a }
 {

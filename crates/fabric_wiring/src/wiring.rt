@@ -1,6 +1,7 @@
 //! The wiring of a fabric in flat tables.
 
-ghost use Rattle.std.specs.Prelude.{◌≡◌, ◌<◌, ◌≤◌, ℕ, ◌*◌, ◌/◌, length, true, false, not, nat_eq, Some, None, IfOk, IfSome};
+ghost use Rattle.std.specs.Prelude.{◌≡◌, ◌<◌, ◌≤◌, ℕ, ◌*◌, ◌/◌, length, slice_get, true, false, not, nat_eq};
+ghost use Rattle.std.specs.Prelude.{Some, None, IfOk, IfSome};
 ghost use Rattle.net_defs.specs.Network.{has_port, is_port_count, ports_of, IsFabric};
 ghost use Rattle.cable_history.specs.History.{first_history, fabric_now, IsHistory};
 ghost use Rattle.cable_history.specs.Crossed.{leaving, life_channels, life_tail, life_head, is_new};
@@ -126,6 +127,14 @@ impl Wiring {
         ensures old { result ≡ false → (c : ℕ) → is_new self.now c ≡ false }
     {
         self.changes != self.accepted
+    }
+
+    /// The cable of a number, with the changes that plugged and pulled it.
+    pub fn wire(&self, k: u16) -> Wire
+        requires { k < length self.now.wires }
+        ensures { slice_get self.now.wires k ≡ Some result }
+    {
+        wire_at(&self.wires, usize::from(k))
     }
 
     /// Whether a channel's cable was plugged since the cables were accepted. It looks at no cable where nothing has

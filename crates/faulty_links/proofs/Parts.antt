@@ -1,33 +1,35 @@
 -- Each event of the links, in every world with this part.
 use Rattle.std.proofs.Common.{◌≡◌, ◌+◌, ℕ, Bool, true, false, not, ◌||◌, nat_le, nat_eq, List, Option, Some, None, is_some, true≢false, refl, sym, ap, ◌∙◌, if◌then◌else◌}
 use Rattle.std.specs.Map.{lookup}
+use Rattle.net_defs.specs.declared.vertex.End.{End}
 use Rattle.link_defs.specs.declared.replayed.Replayed.{Replayed}
 use Rattle.link_defs.specs.declared.replayed.Replayed.TheVariants.{Back, Busy, Unknown}
 use Rattle.link_defs.specs.declared.moved.Moved.{Moved}
 use Rattle.link_defs.specs.declared.moved.Moved.TheVariants.{To, AtHost, Dropped as MovedDropped, Blocked as MovedBlocked, Empty}
 use Rattle.link_defs.specs.Links.{Held as HeldPacket, LinkState, packet_in, with_packet, put}
 use Rattle.link_defs.specs.Advance.{advance}
-use Rattle.link_defs.specs.Fault.{lose, reset, repeat, hold, flip, replay}
+use Rattle.link_defs.specs.Fault.{lose, reset, repeat, hold, flip, pull, plug, replay}
 use Rattle.link_defs.specs.Hops.{changes}
 use Rattle.link_defs.specs.Laws.{is_idle_replay}
 use Rattle.link_defs.proofs.Slots.{set-same}
 use Rattle.channel_slots.proofs.Counting.{set-set}
 use Rattle.net_defs.proofs.Growing.{no_some}
-use Rattle.link_defs.proofs.Idling.{lose-idle, repeat-idle, hold-idle, flip-idle, replay-idle}
+use Rattle.link_defs.proofs.Idling.{lose-idle, repeat-idle, hold-idle, flip-idle, replay-idle, pull-idle, plug-idle}
 use Rattle.link_defs.proofs.HopsLeft.{advance-still}
 use Rattle.world_defs.specs.declared.effect.Effect.{Effect}
-use Rattle.world_defs.specs.declared.effect.Effect.TheVariants.{Idle, Injected, Moved as MovedTo, Blocked, Dropped, Lost, Reset as WasReset, Flipped, Repeated, Held, Replayed as ReplayedTo}
+use Rattle.world_defs.specs.declared.effect.Effect.TheVariants.{Idle, Injected, Moved as MovedTo, Blocked, Dropped, Lost, Reset as WasReset, Flipped, Repeated, Held, Replayed as ReplayedTo, Said}
+use Rattle.world_defs.specs.declared.effect.Said.TheVariants.{Done}
 use Rattle.world_defs.specs.declared.fault.Fault.{Fault}
 use Rattle.world_defs.specs.Node.{Outgoing, packet_for, after_sending}
 use Rattle.world_defs.specs.Hearing.{hear}
-use Rattle.world_defs.specs.World.{WorldState, host_count, last_count, counted, node_at, with_node, without_fault}
-use Rattle.world_defs.specs.Step.{of_links, of_limbo, of_replay, lost, was_reset, repeated, held, flipped, replayed, advanced, advanced_by, arrived, cause_at_switch, fault_on, is_harm, struck_by, fault_strikes, planned_strikes, sent_out}
-use Rattle.world_defs.specs.declared.fault.Fault.TheVariants.{Lose as LoseFault, Repeat as RepeatFault, Hold as HoldFault, Flip as FlipFault}
+use Rattle.world_defs.specs.World.{WorldState, host_count, last_count, counted, node_at, with_node, without_fault, keeps_out}
+use Rattle.world_defs.specs.Step.{of_links, of_limbo, of_replay, lost, was_reset, repeated, held, flipped, replayed, pulled, plugged, advanced, advanced_by, arrived, cause_at_switch, fault_on, is_harm, struck_by, fault_strikes, planned_strikes, sent_out}
+use Rattle.world_defs.specs.declared.fault.Fault.TheVariants.{Lose as LoseFault, Repeat as RepeatFault, Hold as HoldFault, Flip as FlipFault, Pull as PullFault}
 use Rattle.link_model.specs.Hop.{is_hop, IsHop}
 use Rattle.link_model.specs.declared.hop.Hop.{Hop}
 use Rattle.link_model.specs.declared.hop.Hop.TheVariants.{Moved as Hopped, Blocked as Waits, Untried}
 use Rattle.faulty_links.proofs.Arrivals.{taken_there, reached_is}
-use Rattle.faulty_links.specs.Held.{LinksAndPlan, with_part, reached_by, reaching, IsHeardAt, put_under_next, IsHopOf, WorldHasItsPart, PartOfWorldWithPart, InjectionIsPut, InjectionIsIdle}
+use Rattle.faulty_links.specs.Held.{LinksAndPlan, with_part, reached_by, reaching, IsHeardAt, put_under_next, IsHopOf, WorldHasItsPart, PartOfWorldWithPart, InjectionIsPut, InjectionIsKeptOut, InjectionIsIdle}
 
 -- this part with other links
 abbrev pub linked : LinksAndPlan → LinkState → LinksAndPlan
@@ -83,6 +85,14 @@ held_part w p c = of_limbo-part w p Held (hold p.links c) (hold-idle p.links c)
 pub flipped_part : (w : WorldState) (p : LinksAndPlan) (c bit pattern : ℕ) → flipped (with_part w p) c bit pattern ≡ (told (flip p.links c bit pattern).0 Flipped, with_part w (linked p (flip p.links c bit pattern).1))
 unfolding flipped
 flipped_part w p c bit pattern = of_links-part w p Flipped (flip p.links c bit pattern) (flip-idle p.links c bit pattern)
+
+pub pulled_part : (w : WorldState) (p : LinksAndPlan) (e : End) → pulled (with_part w p) e ≡ (told (pull p.links e).0 (Said Done), with_part w (linked p (pull p.links e).1))
+unfolding pulled
+pulled_part w p e = of_links-part w p (Said Done) (pull p.links e) (pull-idle p.links e)
+
+pub plugged_part : (w : WorldState) (p : LinksAndPlan) (a b : End) → plugged (with_part w p) a b ≡ (told (plug p.links a b).0 (Said Done), with_part w (linked p (plug p.links a b).1))
+unfolding plugged
+plugged_part w p a b = of_links-part w p (Said Done) (plug p.links a b) (plug-idle p.links a b)
 
 pub replayed_part : (w : WorldState) (p : LinksAndPlan) (serial : ℕ) → replayed (with_part w p) serial ≡ (told_replay (replay p.links serial).0, with_part w (linked p (replay p.links serial).1))
 unfolding replayed
@@ -151,6 +161,7 @@ fault_on-idle l c LoseFault e = lose-idle l c e
 fault_on-idle l c RepeatFault e = repeat-idle l c (no_some (repeat l c).0 e)
 fault_on-idle l c HoldFault e = hold-idle l c (no_some (hold l c).0 e)
 fault_on-idle l c (FlipFault bit pattern) e = flip-idle l c bit pattern e
+fault_on-idle l c (PullFault at) e = pull-idle l at e
 
 -- a part in which a packet of these bytes was put into a channel under the next number
 abbrev pub put_in : LinksAndPlan → ℕ → List ℕ → LinksAndPlan
@@ -196,15 +207,28 @@ inject_by w h c out t = if t then (Idle, w) else (Injected (w.injected + 1), pla
 
 pub injection_is_put : InjectionIsPut
 unfolding sent_out
-injection_is_put w h c out can = by (is_some (packet_in w.links c) || nat_le last_count w.injected) can
+injection_is_put w h c out can free = by (is_some (packet_in w.links c)) (nat_le last_count w.injected) (keeps_out w c out) can free
   where
-    by : (t : Bool) → not t ≡ true → inject_by w h c out t ≡ (Injected (w.injected + 1), planned_strikes (put_under_next (with_node w h (after_sending (node_at w h) out)) c (packet_for h (w.injected + 1) out)) c)
-    by true e = absurd (true≢false (sym e))
-    by false e = refl
+    by : (full last kept : Bool) → not (full || last) ≡ true → kept ≡ false
+        → inject_by w h c out (full || last || kept) ≡ (Injected (w.injected + 1), planned_strikes (put_under_next (with_node w h (after_sending (node_at w h) out)) c (packet_for h (w.injected + 1) out)) c)
+    by true last kept e f = absurd (true≢false (sym e))
+    by false true kept e f = absurd (true≢false (sym e))
+    by false false true e f = absurd (true≢false f)
+    by false false false e f = refl
+
+pub injection_is_kept_out : InjectionIsKeptOut
+injection_is_kept_out w h c out kept = by (is_some (packet_in w.links c)) (nat_le last_count w.injected) (keeps_out w c out) kept
+  where
+    by : (full last new : Bool) → new ≡ true → inject_by w h c out (full || last || new) ≡ (Idle, w)
+    by true last new e = refl
+    by false true new e = refl
+    by false false true e = refl
+    by false false false e = absurd (true≢false (sym e))
 
 pub injection_is_idle : InjectionIsIdle
-injection_is_idle w h c out not_left = by (is_some (packet_in w.links c) || nat_le last_count w.injected) not_left
+injection_is_idle w h c out not_left = by (is_some (packet_in w.links c)) (nat_le last_count w.injected) (keeps_out w c out) not_left
   where
-    by : (t : Bool) → not t ≡ false → inject_by w h c out t ≡ (Idle, w)
-    by true e = refl
-    by false e = absurd (true≢false e)
+    by : (full last kept : Bool) → not (full || last) ≡ false → inject_by w h c out (full || last || kept) ≡ (Idle, w)
+    by true last kept e = refl
+    by false true kept e = refl
+    by false false kept e = absurd (true≢false e)

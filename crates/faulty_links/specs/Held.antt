@@ -1,17 +1,19 @@
 -- The part of a world that its links keep: what the channels and limbo hold, the plan of faults, and the counts.
 use Rattle.std.specs.Prelude.{◌≡◌, ℕ, ◌+◌, ◌||◌, Bool, true, false, not, nat_le, List, Option, Some, None, is_some}
 use Rattle.std.specs.Prelude.{if◌then◌else◌}
+use Rattle.net_defs.specs.declared.vertex.End.{End}
 use Rattle.link_defs.specs.declared.moved.Moved.{Moved}
 use Rattle.link_defs.specs.declared.moved.Moved.TheVariants.{AtHost}
 use Rattle.link_defs.specs.Links.{LinkState, packet_in, put}
 use Rattle.link_defs.specs.Advance.{advance}
 use Rattle.world_defs.specs.declared.effect.Effect.TheVariants.{Idle, Injected, Moved as MovedTo, Blocked}
 use Rattle.world_defs.specs.declared.fault.Fault.{Fault}
+use Rattle.world_defs.specs.declared.fault.Fault.TheVariants.{Pull}
 use Rattle.world_defs.specs.declared.arrival.Arrival.{Arrival}
 use Rattle.world_defs.specs.declared.effect.Effect.{Effect}
 use Rattle.world_defs.specs.Node.{NodeState, Outgoing, packet_for, after_sending}
 use Rattle.world_defs.specs.Hearing.{hear}
-use Rattle.world_defs.specs.World.{WorldState, host_count, last_count, node_at, with_node, with_drop}
+use Rattle.world_defs.specs.World.{WorldState, host_count, last_count, node_at, with_node, with_drop, keeps_out}
 use Rattle.world_defs.specs.Step.{lost, advanced, arrived, inject_one, planned_strikes}
 use Rattle.link_model.specs.Hop.{is_hop, IsRun}
 use Rattle.link_model.specs.declared.hop.Hop.{Hop}
@@ -80,6 +82,11 @@ part_of links plan counts = record {
 abbrev pub can_inject : LinksAndPlan → ℕ → Bool
 can_inject p c = not (is_some (packet_in p.links c) || nat_le last_count p.injected)
 
+-- the port at which a planned fault pulls a cable, where it is a pull
+abbrev pub pull_end : Option Fault → Option End
+pull_end (Some (Pull at)) = Some at
+pull_end _ = None
+
 -- the world in which a packet of these bytes was put into a channel under the next number, before a planned fault
 -- strikes
 abbrev pub put_under_next : WorldState → ℕ → List ℕ → WorldState
@@ -130,16 +137,21 @@ WorldHasItsPart = (w : WorldState) → with_part w (of_world w) ≡ w
 abbrev pub PartOfWorldWithPart : Type 0
 PartOfWorldWithPart = (w : WorldState) (p : LinksAndPlan) → of_world (with_part w p) ≡ p
 
--- an injection from a host into a channel that can take it is the put under the next number, in the world whose host
--- counts it as sent
+-- an injection from a host into a channel that can take it, and whose cable doesn't keep it out, is the put under the
+-- next number, in the world whose host counts it as sent
 abbrev pub InjectionIsPut : Type 0
 InjectionIsPut =
-    (w : WorldState) (h c : ℕ) (out : Outgoing) → can_inject (of_world w) c ≡ true
+    (w : WorldState) (h c : ℕ) (out : Outgoing) → can_inject (of_world w) c ≡ true → keeps_out w c out ≡ false
     → inject_one w h c (Some out) ≡ (
       Injected (w.injected + 1),
       planned_strikes (put_under_next (with_node w h (after_sending (node_at w h) out)) c
           (packet_for h (w.injected + 1) out)) c,
     )
+
+-- an injection that a new cable keeps out is idle
+abbrev pub InjectionIsKeptOut : Type 0
+InjectionIsKeptOut = (w : WorldState) (h c : ℕ) (out : Outgoing) → keeps_out w c out ≡ true
+    → inject_one w h c (Some out) ≡ (Idle, w)
 
 -- an injection into a channel that can't take it is idle
 abbrev pub InjectionIsIdle : Type 0

@@ -3,7 +3,9 @@
 ghost use Rattle.std.specs.Prelude.{◌≡◌, ◌<◌, ◌^◌, [], length, nat_eq, OnOk, OnErr};
 ghost use Rattle.std.specs.Map.{lookup};
 ghost use Rattle.world_defs.specs.World.{with_fault, without_fault};
+ghost use Rattle.faulty_links.specs.Held.{pull_end};
 
+use net_defs::End;
 use std::alloc::{AllocError, Global};
 use std::collections::BTreeMap;
 use std::marker::Model;
@@ -48,6 +50,13 @@ impl Plan {
         self.faults.get(&u128::from(number)).copied()
     }
 
+    /// The port of the pull that is planned for an injection; none where another fault is planned, or no fault.
+    pub(crate) fn pull_at(&self, number: u128) -> Option<End>
+        ensures { result ≡ pull_end (lookup (nat_eq number) self.now) }
+    {
+        pull_end(self.faults.get(&number).copied())
+    }
+
     /// Plans a fault for an injection, in the place of an earlier one.
     pub(crate) fn put(&mut self, number: u128, fault: Fault) -> Result<(), AllocError>
         ensures ok { OnOk result (self.new ≡ with_fault number fault self.old) }
@@ -64,5 +73,15 @@ impl Plan {
         ensures { self.new ≡ without_fault number self.old }
     {
         let _ = self.faults.remove(&u128::from(number));
+    }
+}
+
+// The port at which a fault pulls a cable.
+const fn pull_end(fault: Option<Fault>) -> Option<End>
+    ensures { result ≡ pull_end fault }
+{
+    match fault {
+        Some(Fault::Pull { at }) => Some(at),
+        _ => None,
     }
 }

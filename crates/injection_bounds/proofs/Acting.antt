@@ -6,11 +6,11 @@ use Rattle.net_defs.specs.Network.{Network}
 use Rattle.cable_history.specs.History.{first_history}
 use Rattle.cable_history.specs.Crossed.{life_channels}
 use Rattle.link_defs.specs.Links.{LinkState, emptied, put}
-use Rattle.link_defs.specs.Step.{Put as PutLinks, Advance as AdvanceLinks, Lose as LoseLinks, Reset as ResetLinks, Repeat as RepeatLinks, Hold as HoldLinks, Flip as FlipLinks, Replay as ReplayLinks, stepped}
+use Rattle.link_defs.specs.Step.{Put as PutLinks, Advance as AdvanceLinks, Lose as LoseLinks, Reset as ResetLinks, Repeat as RepeatLinks, Hold as HoldLinks, Flip as FlipLinks, Replay as ReplayLinks, Pull as PullLinks, Plug as PlugLinks, stepped}
 use Rattle.world_defs.specs.declared.event.Event.{Event}
 use Rattle.world_defs.specs.declared.effect.Effect.{Effect}
 use Rattle.world_defs.specs.declared.fault.Fault.{Fault}
-use Rattle.world_defs.specs.declared.fault.Fault.TheVariants.{Lose as LoseFault, Repeat as RepeatFault, Hold as HoldFault, Flip as FlipFault}
+use Rattle.world_defs.specs.declared.fault.Fault.TheVariants.{Lose as LoseFault, Repeat as RepeatFault, Hold as HoldFault, Flip as FlipFault, Pull as PullFault}
 use Rattle.world_defs.specs.Table.{whole_table}
 use Rattle.world_defs.specs.Lane.{new_lane}
 use Rattle.world_defs.specs.Node.{NodeState, Outgoing, lane_count, new_node, to_send, packet_for, after_sending}
@@ -74,6 +74,8 @@ links-pays {w = w} (LinksChange.repeats {c = c} k) = stepped-credit w.links (Rep
 links-pays {w = w} (LinksChange.holds {c = c} k) = stepped-credit w.links (HoldLinks c)
 links-pays {w = w} (LinksChange.flips {c = c} {bit = bit} {pattern = pattern} k) = stepped-credit w.links (FlipLinks c bit pattern)
 links-pays {w = w} (LinksChange.replays {serial = serial} k) = stepped-credit w.links (ReplayLinks serial)
+links-pays {w = w} (LinksChange.pulls {at = at} k) = stepped-credit w.links (PullLinks at)
+links-pays {w = w} (LinksChange.plugs {a = a} {b = b} k) = stepped-credit w.links (PlugLinks a b)
 
 -- a host by itself
 host-pays : {w : WorldState} {e : Event} {x : Effect} {h : ℕ} {m : NodeState} → HostChange w e x h m → node_credit m ≤ node_credit (node_at w h) + event_cost w e
@@ -120,6 +122,7 @@ fault-few c LoseFault = omega arith
 fault-few c RepeatFault = omega arith
 fault-few c HoldFault = omega arith
 fault-few c (FlipFault bit pattern) = omega arith
+fault-few c (PullFault at) = omega arith
 
 strike-pays : {u v : WorldState} {c : ℕ} → Strike u c v → account v ≤ account u
 strike-pays {u = u} (Strike.spares e) = omega arith
@@ -144,7 +147,7 @@ change-pays {w = w} (Change.arrives {c = c} packet h d e f g) =
     let o = hear-credit h (host_count w) (node_at w h) packet.wire in
     omega (arith, l, k, n, o)
 change-pays {w = w} (Change.host {h = h} {m = m} k) = let n = node-set w h m in let o = host-pays k in omega (arith, n, o)
-change-pays {w = w} (Change.injects {h = h} c out d e f g) =
+change-pays {w = w} (Change.injects {h = h} c out d e f g allowed) =
     let u : WorldState = sent_out w h c out in
     let o = out-pays w u h c out e (is-out w h c out) in
     let s = strike-pays (strike_view u c) in

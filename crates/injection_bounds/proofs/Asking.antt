@@ -104,7 +104,7 @@ tries-pledged is_found nothing one each (suc n) w =
 
 pub ask-costs : AskCostsFew
 unfolding log.ask
-ask-costs w mapper tries walk few = by hosts.found
+ask-costs w made mapper tries walk few = by hosts.found
   where
     start : WorldState
     start = all_given_up w
@@ -118,7 +118,7 @@ ask-costs w mapper tries walk few = by hosts.found
         let b = tries-pledged is_some None (log.host_try mapper walk) (host_try-pledged mapper walk) tries start in
         omega (arith, a, b)
 
-    by : (o : Option ℕ) → pledged (asked_hosts mapper walk tries hosts.harmed hosts.world o).world ≤ pledged w + 32
+    by : (o : Option ℕ) → pledged (asked_hosts made mapper walk tries hosts.harmed hosts.world o).world ≤ pledged w + 32
     by (Some h) = omega (arith, first, few)
     by None = let a = tries-pledged (λ b. b) false (log.loop_try mapper walk) (loop_try-pledged mapper walk) tries hosts.world in omega (arith, first, few, a)
 

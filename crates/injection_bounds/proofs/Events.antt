@@ -7,7 +7,7 @@ use Rattle.gm_defs.specs.Body.{message_limit}
 use Rattle.gm_defs.specs.Fragment.{piece_count}
 use Rattle.gm_defs.specs.Port.{is_too_long}
 use Rattle.world_defs.specs.declared.event.Event.{Event}
-use Rattle.world_defs.specs.declared.event.Event.TheVariants.{Ask, Part, Inject, Advance, Lose, Repeat, Hold, Flip, Replay, Reset, Expire, GiveUp, Begin, Close, Provide, Send, Poll, Revoke}
+use Rattle.world_defs.specs.declared.event.Event.TheVariants.{Ask, Part, Inject, Advance, Lose, Repeat, Hold, Flip, Replay, Reset, Expire, GiveUp, Begin, Close, Provide, Send, Poll, Revoke, Pull, Plug}
 use Rattle.world_defs.specs.Table.{whole_table}
 use Rattle.world_defs.specs.Node.{NodeState}
 use Rattle.world_defs.specs.Client.{Called, begun, closed, provided_by, sent_by, polled_by}
@@ -87,6 +87,8 @@ event-few n w (Provide h port size prio) r =
     free w (Provide h port size prio) (free-pledged w (Provide h port size prio) h port (provided_by (node_at w h) port size prio (client_at w h port)) refl refl (provided_by-free (node_at w h) port size prio (client_at w h port)).1)
 event-few n w (Send h port dest dport prio len seed) r = send-pledged w h port dest dport prio len seed
 event-few n w (Revoke h) r = quiet w (Revoke h) tt (omega arith)
+event-few n w (Pull at) r = quiet w (Pull at) tt (omega arith)
+event-few n w (Plug a b) r = quiet w (Plug a b) tt (omega arith)
 event-few n w (Poll h port) r = free w (Poll h port) (free-pledged w (Poll h port) h port (polled_by (node_at w h) port (client_at w h port)) refl refl (polled_by-free (node_at w h) port (client_at w h port)).1)
 
 pub adopts-pledged : (w : WorldState) (mapper : ℕ) (routes : List Route) → pledged (acted w (Adopts mapper routes)) ≤ pledged w

@@ -18,8 +18,8 @@ host_cost = 16 * 8 * 2
 
 -- an ask of at most eight tries costs so much
 abbrev pub AskCostsFew : Type 0
-AskCostsFew = (w : WorldState) (mapper tries : ℕ) (walk : List ℤ) → tries ≤ 8
-    → pledged (ask mapper tries walk w).world ≤ pledged w + ask_cost
+AskCostsFew = (w : WorldState) (made mapper tries : ℕ) (walk : List ℤ) → tries ≤ 8
+    → pledged (ask made mapper tries walk w).world ≤ pledged w + ask_cost
 
 -- each host of an adopted set has at most sixteen parts
 abbrev pub HasFewParts : Adoption → Type 0

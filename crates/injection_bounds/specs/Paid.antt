@@ -6,6 +6,7 @@ use Rattle.gm_defs.specs.Port.{is_too_long}
 use Rattle.world_defs.specs.declared.event.Event.{Event}
 use Rattle.world_defs.specs.declared.event.Event.TheVariants.{Ask, Part, Inject, Advance, Lose, Repeat, Hold, Flip, Replay}
 use Rattle.world_defs.specs.declared.event.Event.TheVariants.{Reset, Expire, GiveUp, Begin, Close, Provide, Send, Poll, Revoke}
+use Rattle.world_defs.specs.declared.event.Event.TheVariants.{Pull, Plug}
 use Rattle.world_defs.specs.Node.{NodeState, lane_of, lane_at}
 use Rattle.world_defs.specs.World.{WorldState, new_world, node_at}
 use Rattle.act_defs.specs.Acts.{Act, Happens, Plans, Adopts, acted, acted_all}
@@ -20,7 +21,7 @@ abbrev pub send_cost : ℕ → ℕ
 send_cost len = if is_too_long len then 0 else 2 * piece_count len
 
 -- The most credit that an event brings: a staged probe or part is sent and answered, a copy and a flip may ask for one
--- more answer, and what was sent is sent again. No injection, advance or replay brings any.
+-- more answer, and what was sent is sent again. No injection, advance, replay, pull or plug brings any.
 abbrev pub event_cost : WorldState → Event → ℕ
 event_cost w (Ask h walk looped) = 2
 event_cost w (Part dst part) = 2
@@ -41,6 +42,8 @@ event_cost w (Provide h port size prio) = 0
 event_cost w (Send h port dest dport prio len seed) = send_cost len
 event_cost w (Poll h port) = 0
 event_cost w (Revoke h) = 0
+event_cost w (Pull at) = 0
+event_cost w (Plug a b) = 0
 
 -- the most credit that an act brings: a plan brings its fault
 abbrev pub cost : WorldState → Act → ℕ

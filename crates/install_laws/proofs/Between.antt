@@ -1,17 +1,19 @@
 -- Between the sends of an installation: idle links, nothing staged but at the adopter, no reply to a probe, and no host for which a part of the set is old.
-use Rattle.std.proofs.Common.{◌≡◌, ◌≢◌, ◌≤◌, ◌<◌, ◌+◌, ℕ, zero, suc, Bool, true, false, ◌||◌, List, [], ◌∷◌, map, length, get_or, set, Some, None, is_some, ⊎_elim, refl, sym, ap, ◌∙◌, subst, arith, true≢false, if◌then◌else◌}
+use Rattle.std.proofs.Common.{◌≡◌, ◌≢◌, ◌≤◌, ◌<◌, ◌+◌, ℕ, zero, suc, Bool, true, false, ◌||◌, List, [], ◌∷◌, map, length, get_or, set, None, is_some, ⊎_elim, refl, sym, ap, ◌∙◌, subst, arith, true≢false, if◌then◌else◌}
 use Rattle.std.specs.List.{range_with_len}
 use Rattle.std.proofs.Math.ListN.{length-set}
 use Rattle.std.proofs.lemmas.List.{get_or-set_same, get_or_past}
 use Rattle.std.proofs.lemmas.Bool.{cases_lt}
 use Rattle.net_defs.specs.Network.{Network}
 use Rattle.net_defs.proofs.Growing.{no_some}
+use Rattle.cable_history.specs.Later.{OnlyPulled}
+use Rattle.cable_history.proofs.Later.{pulled-later, pulled-on, later-kept}
 use Rattle.link_defs.specs.Links.{is_idle}
 use Rattle.world_defs.specs.declared.event.Event.TheVariants.{GiveUp}
 use Rattle.world_defs.specs.declared.effect.Effect.{Effect}
 use Rattle.world_defs.specs.Table.{Adoption, is_old}
 use Rattle.world_defs.specs.Node.{NodeState, Outgoing, new_node, has_staged, given_up, after_sending}
-use Rattle.world_defs.specs.World.{WorldState, fabric_of, host_count, node_at, with_node, addresses}
+use Rattle.world_defs.specs.World.{WorldState, host_count, node_at, with_node, addresses}
 use Rattle.world_defs.specs.Step.{gave_up, step, after_all}
 use Rattle.world_defs.specs.Asking.{all_given_up}
 use Rattle.world_defs.specs.EightBits.{HasByteFaults}
@@ -22,6 +24,8 @@ use Rattle.ask_laws.proofs.Lone.{IsBare, idle-bare}
 use Rattle.ask_laws.proofs.Parcels.{SendKeeps}
 use Rattle.ask_laws.proofs.Along.{given_up-of, asks-bare}
 use Rattle.ask_laws.proofs.Ready.{kept-start}
+use Rattle.ask_laws.proofs.Stood.{over-pulled}
+use Rattle.install_laws.proofs.Since.{IsSince}
 use Rattle.install_laws.specs.Kept.{IsInstallKept}
 use Rattle.world_defs.proofs.Lists.{each-set}
 
@@ -35,7 +39,7 @@ same-ports n = record { lanes = refl; ports = refl }
 
 pub kept-same : (w : WorldState) → IsInstallKept w w
 kept-same w = record {
-  fabric = refl;
+  pulled = OnlyPulled.still;
   hosts = refl;
   lanes = λ h. refl;
   ports = λ h. refl;
@@ -57,7 +61,7 @@ kept-both u v w a b =
     let h0 = a.harmed in
     let h1 = b.harmed in
     record {
-      fabric = b.fabric ∙ a.fabric;
+      pulled = pulled-on a.pulled b.pulled;
       hosts = b.hosts ∙ a.hosts;
       lanes = λ h. b.lanes h ∙ a.lanes h;
       ports = λ h. b.ports h ∙ a.ports h;
@@ -73,7 +77,7 @@ kept-both u v w a b =
 -- what an ask keeps, an installation keeps
 pub kept-ask : (w v : WorldState) → IsAskKept w v → IsInstallKept w v
 kept-ask w v k = record {
-  fabric = k.fabric;
+  pulled = k.pulled;
   hosts = k.hosts;
   lanes = k.lanes;
   ports = k.ports;
@@ -94,7 +98,7 @@ pub kept-node : (w : WorldState) (h : ℕ) (n : NodeState) → SamePorts (node_a
 kept-node w h n k =
     let each = set-node w h n k in
     record {
-      fabric = refl;
+      pulled = OnlyPulled.still;
       hosts = length-set w.nodes h n;
       lanes = λ g. (each g).lanes;
       ports = λ g. (each g).ports;
@@ -117,7 +121,7 @@ kept-sent w h out t same k =
     let at = λ (g : ℕ). nodes-at w t h g n k.nodes in
     let i = k.injected in
     record {
-      fabric = k.net;
+      pulled = k.pulled;
       hosts = ap length k.nodes ∙ length-set w.nodes h n;
       lanes = λ g. ap (λ (x : NodeState). x.lanes) (at g) ∙ (each g).lanes;
       ports = λ g. ap (λ (x : NodeState). x.ports) (at g) ∙ (each g).ports;
@@ -136,21 +140,25 @@ pub record IsBetween (number mapper h : ℕ) (n : NodeState) : Type 0 where
   pub no_reply : n.reply ≡ None
   pub due : is_old n.table number ≡ false
 
+-- the cables since the adoption stay so as some are pulled
+pub since-pulled : (n : Network) (a : Adoption) (w v : WorldState) → OnlyPulled w.links.cables v.links.cables → v.adopted ≡ w.adopted → IsSince n a w → IsSince n a v
+since-pulled n a w v only same s =
+    let k = later-kept (pulled-later only) in
+    record { over = over-pulled n a.at only s.over; accepted = k.accepted ∙ s.accepted; adopted = same ∙ s.adopted }
+
 -- and a world
 pub record Between (n : Network) (a : Adoption) (w : WorldState) : Type 0 where
-  pub net : fabric_of w ≡ n
+  pub since : IsSince n a w
   pub bare : IsBare w.links
   pub hosts : host_count w ≡ length n.hosts
-  pub adopted : w.adopted ≡ Some a
   pub nodes : (h : ℕ) → IsBetween a.epoch a.mapper h (node_at w h)
   pub flips : HasByteFaults w
 
 pub between-node : (n : Network) (a : Adoption) (w : WorldState) (h : ℕ) (m : NodeState) → Between n a w → IsBetween a.epoch a.mapper h m → Between n a (with_node w h m)
 between-node n a w h m b here = record {
-  net = b.net;
+  since = record { over = b.since.over; accepted = b.since.accepted; adopted = b.since.adopted };
   bare = b.bare;
   hosts = length-set w.nodes h m ∙ b.hosts;
-  adopted = b.adopted;
   nodes = λ j. each-set (IsBetween a.epoch a.mapper) w.nodes h j m (new_node 0) here b.nodes;
   flips = b.flips;
 }
@@ -159,10 +167,9 @@ pub between-sent : (n : Network) (a : Adoption) (w : WorldState) (h : ℕ) (out 
 between-sent n a w h out t b here k =
     let m : NodeState = after_sending (node_at w h) out in
     record {
-      net = k.net ∙ b.net;
+      since = since-pulled n a w t k.pulled k.adopted b.since;
       bare = k.bare;
       hosts = ap length k.nodes ∙ length-set w.nodes h m ∙ b.hosts;
-      adopted = k.adopted ∙ b.adopted;
       nodes = λ j. subst (IsBetween a.epoch a.mapper j) (sym (nodes-at w t h j m k.nodes)) (each-set (IsBetween a.epoch a.mapper) w.nodes h j m (new_node 0) here b.nodes);
       flips = k.byte_flips b.flips;
     }
@@ -244,15 +251,14 @@ all-blank w h =
     (cases_lt h (host_count w))
 
 -- the start of an installation
-pub between-start : (n : Network) (a : Adoption) (w : WorldState) → fabric_of w ≡ n → IsWorld w → is_idle w.links ≡ true → w.adopted ≡ Some a → HasByteFaults w → ((h : ℕ) → is_old (node_at w h).table a.epoch ≡ false) → Between n a (all_given_up w)
-between-start n a w net is idle adopted flips due =
+pub between-start : (n : Network) (a : Adoption) (w : WorldState) → IsSince n a w → w.links.cables.hosts ≡ n.hosts → IsWorld w → is_idle w.links ≡ true → HasByteFaults w → ((h : ℕ) → is_old (node_at w h).table a.epoch ≡ false) → Between n a (all_given_up w)
+between-start n a w since names is idle flips due =
     let k = kept-start w in
     let start : WorldState = all_given_up w in
     record {
-      net = k.fabric ∙ net;
+      since = since-pulled n a w start k.pulled k.adopted since;
       bare = given_up-of (λ u v. IsBare u.links → IsBare v.links) asks-bare w (addresses w) (idle-bare w.links is.links.slots idle);
-      hosts = k.hosts ∙ is.hosts ∙ ap (λ m. length m.hosts) net;
-      adopted = k.adopted ∙ adopted;
+      hosts = k.hosts ∙ is.hosts ∙ ap length names;
       nodes = λ h. let b = all-blank w h in let e = k.table h in record { unstaged = λ other. b.staged; no_reply = b.reply; due = subst (λ t. is_old t a.epoch ≡ false) (sym e) (due h) };
       flips = k.byte_flips flips;
     }

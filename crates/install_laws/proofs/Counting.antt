@@ -86,8 +86,8 @@ no-less tries k m some e = ⊎_elim (λ low. absurd (over low)) (λ least. least
         absurd (omega (arith, some, e, more, split))
 
 pub unharmed-all : UnharmedCountsAll
-unharmed-all a hosts tries w can some left same =
-    let cost = misses-cost a hosts tries w can left in
+unharmed-all a hosts tries w can some left same calm =
+    let cost = misses-cost a hosts tries w can left calm in
     let most = counts-most a hosts tries w in
     let least = no-less tries (length hosts) (installed a hosts tries w).0 some (omega (arith, cost, same)) in
     omega (arith, most, least)

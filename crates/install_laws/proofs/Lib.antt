@@ -3,6 +3,7 @@ pub mod Leads
 mod Tables
 pub mod Epochs
 mod Parts
+pub mod Since
 mod Between
 mod Collecting
 mod Growing

@@ -192,6 +192,7 @@ pub record IsSent (n : Network) (a : Adoption) (dst part : ℕ) : Type 0 where
   pub way : List ℤ
   pub is : part_for a dst part ≡ Some sent
   pub way_is : route_of a.routes a.mapper dst ≡ Some way
+  pub home_is : route_of a.routes dst a.mapper ≡ Some sent.back
   pub epoch : sent.epoch ≡ a.epoch
   pub fits : a.epoch < 2 ^ 32
   pub mapper : sent.mapper ≡ a.mapper
@@ -243,6 +244,7 @@ sent-part n a dst part f fit up all other joined low =
       way = there.walk;
       is = rw (away, inside, back.is) refl;
       way_is = there.is;
+      home_is = back.is;
       epoch = refl;
       fits = fit;
       mapper = refl;

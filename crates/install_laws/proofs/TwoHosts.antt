@@ -10,7 +10,7 @@ use Rattle.world_defs.specs.Logs.{drain, sends, part_try, install}
 use Rattle.table_laws.specs.Examples.{adopted_world}
 use Rattle.table_laws.proofs.TwoHosts.{adopted-reached}
 use Rattle.install_laws.proofs.Leads.{leads-plan, reached-further}
-use Rattle.install_laws.specs.Examples.{losing, BothCanInstall, BothAreCounted, LostPartIsMissed, LostAnswerIsMissed, SecondTryCounts}
+use Rattle.install_laws.specs.Examples.{losing, BothCanInstall, BothAreCounted, LostPartIsMissed, LostAnswerIsMissed, SecondTryCounts, CutHostIsMissed}
 
 both-unrevoked : (h : ℕ) → h < host_count (losing 1) → has_revoked 1 (node_at (losing 1) h).table ≡ false
 both-unrevoked zero low = refl
@@ -22,6 +22,7 @@ both-can_install = record {
   reached = reached-further _ adopted_world _ adopted-reached (leads-plan adopted_world 1 Lose (omega arith) tt);
   idle = refl;
   adopted = refl;
+  unchanged = refl;
   unrevoked = both-unrevoked;
   set = record {
     in_order = ((refl, tt), (tt, tt));
@@ -45,3 +46,7 @@ answer-missed = (refl, refl, refl)
 pub second-counts : SecondTryCounts
 unfolding sends part_try install drain hear applied to_send packet_for after_sending part_staged planned_strikes sent_out injected advanced gave_up
 second-counts = (refl, refl)
+
+pub cut-missed : CutHostIsMissed
+unfolding sends part_try install drain hear applied to_send packet_for after_sending part_staged planned_strikes sent_out injected advanced gave_up
+cut-missed = (refl, refl, refl)

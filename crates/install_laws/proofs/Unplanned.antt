@@ -1,5 +1,5 @@
--- Where no fault is planned for an injection of an installation, none harms.
-use Rattle.std.proofs.Common.{◌≡◌, ◌<◌, ◌≤◌, ◌+◌, ℕ, Bool, true, false, nat_eq, List, [], ◌∷◌, Some, None, cond, refl, sym, ap, ◌∙◌, arith}
+-- Where no fault is planned for an injection of an installation, none harms, and no cable goes.
+use Rattle.std.proofs.Common.{◌≡◌, ◌≤◌, ◌+◌, ℕ, Bool, true, false, nat_eq, List, [], ◌∷◌, Some, None, cond, refl, sym, ap, ◌∙◌, arith}
 use Rattle.std.specs.Map.{lookup, remove_entry}
 use Rattle.world_defs.specs.declared.fault.Fault.{Fault}
 use Rattle.world_defs.specs.Node.{Outgoing}
@@ -7,15 +7,14 @@ use Rattle.world_defs.specs.World.{WorldState}
 use Rattle.world_defs.specs.Step.{planned_strikes, sent_out}
 use Rattle.world_defs.specs.EightBits.{IsByteEvent}
 use Rattle.world_laws.proofs.Leaves.{Follows, FollowsCalls, step-leaves}
-use Rattle.world_laws.proofs.Along.{Along}
+use Rattle.world_laws.proofs.Along.{Along, row-along}
+use Rattle.world_laws.proofs.Unplanned.{IsUnplanned, Unplanned, is_change, along-unplanned}
+use Rattle.world_defs.specs.Logs.{install}
+use Rattle.world_defs.proofs.LogRows.{install-row}
 use Rattle.world_defs.proofs.Strikes.{Strike, strike_view}
 use Rattle.install_laws.proofs.Worlds.{installed-of}
 use Rattle.install_laws.specs.Counts.{UnplannedCountsAll}
 use Rattle.install_laws.proofs.Counting.{unharmed-all}
-
--- no fault is planned for an injection between two worlds
-abbrev IsUnplanned : WorldState → WorldState → Type 0
-IsUnplanned w v = (number : ℕ) → w.injected < number → number ≤ v.injected → lookup (nat_eq number) w.plan ≡ None
 
 -- what follows
 record Unharmed (w v : WorldState) : Type 0 where
@@ -81,4 +80,6 @@ along-so : Along Unharmed IsByteEvent
 along-so = record { same = λ w. unharmed-same w w refl refl refl; both = unharmed-both; event = λ w e q. step-leaves Unharmed follows-so calls-so w e }
 
 pub unplanned-all : UnplannedCountsAll
-unplanned-all a hosts tries w can some left none = unharmed-all a hosts tries w can some left ((installed-of Unharmed along-so a hosts tries w).harmed none)
+unplanned-all a hosts tries w can some left none =
+    let u : Unplanned w (install a hosts tries w).world = row-along along-unplanned (install-row {Q = λ e. is_change e ≡ false} (record { advance = λ c. refl; inject = λ h. refl; give_up = λ h. refl }) (λ dst part. refl) a hosts tries w) in
+    unharmed-all a hosts tries w can some left ((installed-of Unharmed along-so a hosts tries w).harmed none) (ap (λ h. h.changes) (u.cables none))

@@ -1,12 +1,12 @@
--- What events, plans, settles and installations keep of a world: the fabric, that it is one of it, and that planned flips have eight bits.
-use Rattle.std.proofs.Common.{◌≡◌, ◌+◌, ℕ, ℤ, List, refl, sym, ap, ◌∙◌, subst}
+-- What events, plans, settles and installations keep of a world: a history of cables, that it is one of its fabric, and that planned flips have eight bits.
+use Rattle.std.proofs.Common.{◌≡◌, ◌+◌, ℕ, ℤ, List, refl, sym, ◌∙◌, subst}
 use Rattle.net_defs.specs.declared.route.Route.{Route}
-use Rattle.cable_history.specs.History.{fabric_now}
 use Rattle.world_defs.specs.declared.event.Event.{Event}
 use Rattle.world_defs.specs.declared.fault.Fault.{Fault}
 use Rattle.world_defs.specs.Table.{Adoption}
-use Rattle.world_defs.specs.World.{WorldState, fabric_of, planned, keeps_epoch, adopted_by}
-use Rattle.act_defs.proofs.Kept.{accepted-net}
+use Rattle.world_defs.specs.World.{WorldState, planned, adopted_by}
+use Rattle.act_defs.specs.Acts.{Happens, Plans, Adopts}
+use Rattle.act_defs.proofs.Kept.{CablesKept, kept-same, kept-both, acted-kept}
 use Rattle.world_defs.specs.Step.{step}
 use Rattle.world_defs.proofs.Kept.{step-adopted, with-all, step-plan}
 use Rattle.world_defs.specs.EightBits.{IsByteFault, IsByteEvent, HasByteFaults}
@@ -19,27 +19,27 @@ use Rattle.world_defs.proofs.LogRows.{settle-row, asks-row, install-row, byte_se
 
 -- what is kept from a world to another
 pub record Stays (w v : WorldState) : Type 0 where
-  pub fabric : fabric_of v ≡ fabric_of w
+  pub cables : CablesKept w v
   pub world : IsWorld w → IsWorld v
   pub bytes : HasByteFaults w → HasByteFaults v
 
 pub stays-same : (w : WorldState) → Stays w w
-stays-same w = record { fabric = refl; world = λ is. is; bytes = λ all. all }
+stays-same w = record { cables = kept-same w; world = λ is. is; bytes = λ all. all }
 
 pub stays-both : (u v w : WorldState) → Stays u v → Stays v w → Stays u w
-stays-both u v w a b = record { fabric = b.fabric ∙ a.fabric; world = λ is. b.world (a.world is); bytes = λ all. b.bytes (a.bytes all) }
+stays-both u v w a b = record { cables = kept-both u v w a.cables b.cables; world = λ is. b.world (a.world is); bytes = λ all. b.bytes (a.bytes all) }
 
 pub stays-event : (w : WorldState) (e : Event) → Stays w (step w e).1
-stays-event w e = let k = step-kept w e in record { fabric = ap fabric_now k.cables; world = k.world; bytes = step-plan w e }
+stays-event w e = let k = step-kept w e in record { cables = acted-kept w (Happens e); world = k.world; bytes = step-plan w e }
 
 stays-along : (Q : Event → Type 0) → Along Stays Q
 stays-along Q = record { same = stays-same; both = stays-both; event = λ w e q. stays-event w e }
 
 pub stays-plan : (w : WorldState) (ahead : ℕ) (fault : Fault) → IsByteFault fault → Stays w (planned w ahead fault).1
-stays-plan w ahead fault low = record { fabric = refl; world = planned-world w ahead fault; bytes = with-all (w.injected + ahead) fault w.plan low }
+stays-plan w ahead fault low = record { cables = acted-kept w (Plans ahead fault); world = planned-world w ahead fault; bytes = with-all (w.injected + ahead) fault w.plan low }
 
 pub stays-adopted : (w : WorldState) (mapper : ℕ) (routes : List Route) → Stays w (adopted_by w mapper routes)
-stays-adopted w mapper routes = record { fabric = accepted-net w.links (keeps_epoch w routes); world = adopted-world w mapper routes; bytes = λ all. all }
+stays-adopted w mapper routes = record { cables = acted-kept w (Adopts mapper routes); world = adopted-world w mapper routes; bytes = λ all. all }
 
 -- what holds from a world to the next at every event holds along settles, asks and installations
 module _ (R : WorldState → WorldState → Type 0) (g : Along R IsByteEvent) where
@@ -49,8 +49,8 @@ module _ (R : WorldState → WorldState → Type 0) (g : Along R IsByteEvent) wh
   pub settle-of : (w : WorldState) → R w (settle w).world
   settle-of w = along-row (settle-row byte_settles w)
 
-  pub asks-of : (mapper tries : ℕ) (walks : List (List ℤ)) (w : WorldState) → R w (asks mapper tries walks w).world
-  asks-of mapper tries walks w = along-row (asks-row byte_asks (λ h x looped. tt) mapper tries walks w)
+  pub asks-of : (made mapper tries : ℕ) (walks : List (List ℤ)) (w : WorldState) → R w (asks made mapper tries walks w).world
+  asks-of made mapper tries walks w = along-row (asks-row byte_asks (λ h x looped. tt) made mapper tries walks w)
 
   pub installed-of : (a : Adoption) (hosts : List ℕ) (tries : ℕ) (w : WorldState) → R w (install a hosts tries w).world
   installed-of a hosts tries w = along-row (install-row byte_asks (λ dst part. tt) a hosts tries w)
@@ -60,6 +60,9 @@ stays-settle w = settle-of Stays (stays-along IsByteEvent) w
 
 pub stays-installed : (a : Adoption) (hosts : List ℕ) (tries : ℕ) (w : WorldState) → Stays w (install a hosts tries w).world
 stays-installed a hosts tries w = installed-of Stays (stays-along IsByteEvent) a hosts tries w
+
+pub stays-asked : (made mapper tries : ℕ) (walks : List (List ℤ)) (w : WorldState) → Stays w (asks made mapper tries walks w).world
+stays-asked made mapper tries walks w = asks-of Stays (stays-along IsByteEvent) made mapper tries walks w
 
 -- the adopted set stays
 abbrev pub SameSet : WorldState → WorldState → Type 0

@@ -25,19 +25,23 @@ CountsAllWhereAcknowledged =
     (a : Adoption) (hosts : List ℕ) (tries : ℕ) (w : WorldState)
     → ((install a hosts tries w).value ≡ length hosts) ↔ EachIsAcknowledged a tries hosts (all_given_up w)
 
--- each host that isn't counted costs as many planned faults as a part has tries
+-- each host that isn't counted costs as many planned faults as a part has tries, where no cable goes
 abbrev pub EachMissCostsFaults : Type 0
 EachMissCostsFaults =
     (a : Adoption) (hosts : List ℕ) (tries : ℕ) (w : WorldState) → CanInstall a hosts w
     → (install a hosts tries w).world.injected < last_count
+    → (install a hosts tries w).world.links.cables.changes ≡ w.links.cables.changes
     → w.harmed + tries * length hosts ≤ (install a hosts tries w).world.harmed + tries * (install a hosts tries w).value
 
--- so all hosts are counted where a part has a try at least and no planned fault loses, holds or flips a packet
+-- so all hosts are counted where a part has a try at least, no planned fault loses, holds or flips a packet, and no
+-- cable goes
 abbrev pub UnharmedCountsAll : Type 0
 UnharmedCountsAll =
     (a : Adoption) (hosts : List ℕ) (tries : ℕ) (w : WorldState) → CanInstall a hosts w → 0 < tries
     → (install a hosts tries w).world.injected < last_count
-    → (install a hosts tries w).world.harmed ≡ w.harmed → (install a hosts tries w).value ≡ length hosts
+    → (install a hosts tries w).world.harmed ≡ w.harmed
+    → (install a hosts tries w).world.links.cables.changes ≡ w.links.cables.changes
+    → (install a hosts tries w).value ≡ length hosts
 
 -- and so where no fault is planned for an injection of it
 abbrev pub UnplannedCountsAll : Type 0
@@ -49,10 +53,11 @@ UnplannedCountsAll =
     → (install a hosts tries w).value ≡ length hosts
 
 -- What the count of an installation shows: each host that isn't counted has a part each of whose tries met a planned
--- loss, hold or flip, on the part or on its acknowledgement; so all hosts are counted where none did.
+-- loss, hold or flip, on the part or on its acknowledgement, or ended with a cable of the routes to and fro pulled; so
+-- all hosts are counted where none did and no cable went.
 pub record TellsCause (a : Adoption) (hosts : List ℕ) (tries acked : ℕ) (w v : WorldState) : Type 0 where
   pub missed : EachMissedWasHarmed a tries hosts (all_given_up w)
-  pub unharmed : v.harmed ≡ w.harmed → acked ≡ length hosts
+  pub unharmed : v.harmed ≡ w.harmed → v.links.cables.changes ≡ w.links.cables.changes → acked ≡ length hosts
 
 -- it does where a part has a try at least and injections are left
 abbrev pub InstallingTellsCause : Type 0

@@ -1,9 +1,11 @@
 -- Installations on the two hosts at one switch, worked out: host 0 has adopted the routes.
-use Rattle.std.specs.Prelude.{◌≡◌, ℕ, List, [], ◌∷◌, Some, None}
-use Rattle.world_defs.specs.declared.fault.Fault.TheVariants.{Lose}
+use Rattle.std.specs.Prelude.{◌≡◌, ℕ, true, List, [], ◌∷◌, Some, None}
+use Rattle.net_defs.specs.Examples.{host_end}
+use Rattle.world_defs.specs.declared.fault.Fault.TheVariants.{Lose, Pull}
 use Rattle.world_defs.specs.Table.{active_epoch}
 use Rattle.world_defs.specs.World.{WorldState, node_at, planned}
 use Rattle.world_defs.specs.Examples.{setup_adoption}
+use Rattle.world_defs.specs.Traffic.{is_broken}
 use Rattle.world_defs.specs.Logs.{install}
 use Rattle.table_laws.specs.Examples.{adopted_world}
 use Rattle.install_laws.specs.Premises.{CanInstall}
@@ -43,3 +45,11 @@ LostAnswerIsMissed =
 abbrev pub SecondTryCounts : Type 0
 SecondTryCounts = ((install setup_adoption both_hosts 2 (losing 1)).value ≡ 2)
     × ((install setup_adoption both_hosts 2 (losing 2)).value ≡ 2)
+
+-- where the cable of host 1 is pulled at the injection of its part, two tries miss it: no fault harmed, but its route is
+-- broken
+abbrev pub CutHostIsMissed : Type 0
+CutHostIsMissed =
+    ((install setup_adoption both_hosts 2 (planned adopted_world 1 (Pull (host_end 1))).1).value ≡ 1)
+    × ((install setup_adoption both_hosts 2 (planned adopted_world 1 (Pull (host_end 1))).1).world.harmed ≡ 0)
+    × (is_broken (install setup_adoption both_hosts 2 (planned adopted_world 1 (Pull (host_end 1))).1).world 0 1 ≡ true)

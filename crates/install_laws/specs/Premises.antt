@@ -1,10 +1,11 @@
 -- What an installation is made over.
 use Rattle.std.specs.Prelude.{◌≡◌, ◌≢◌, ℕ, ◌≤◌, ◌<◌, true, false, List, length, Some}
 use Rattle.std.specs.List.{AllByRecursion}
+use Rattle.cable_history.specs.History.{fabric_at}
 use Rattle.link_defs.specs.Links.{is_idle}
 use Rattle.net_defs.specs.RouteSet.{AreRising, HasRoute}
 use Rattle.world_defs.specs.Table.{Adoption, has_revoked}
-use Rattle.world_defs.specs.World.{WorldState, fabric_of, host_count, node_at}
+use Rattle.world_defs.specs.World.{WorldState, host_count, node_at}
 use Rattle.act_defs.specs.Acts.{IsReached}
 
 -- a set has a route from its adopter to a host, and one back
@@ -24,10 +25,11 @@ pub record IsForHosts (a : Adoption) (hosts : List ℕ) : Type 0 where
   pub joined : AllByRecursion (λ h. h ≢ a.mapper → IsJoined a h) hosts
 
 -- An installation of the adopted set on these hosts, in a world that acts which may happen lead to: the links are
--- idle, and no host has given up the set's epoch.
+-- idle, no host has given up the set's epoch, and no cable went or came since the adoption.
 pub record CanInstall (a : Adoption) (hosts : List ℕ) (w : WorldState) : Type 0 where
-  pub reached : IsReached (fabric_of w) w
+  pub reached : IsReached (fabric_at w.links.cables 0) w
   pub idle : is_idle w.links ≡ true
   pub adopted : w.adopted ≡ Some a
+  pub unchanged : w.links.cables.changes ≡ a.at
   pub unrevoked : (h : ℕ) → h < host_count w → has_revoked a.epoch (node_at w h).table ≡ false
   pub set : IsForHosts a hosts

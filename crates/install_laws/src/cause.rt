@@ -6,14 +6,14 @@ ghost use Rattle.install_laws.specs.Counts.{UnharmedCountsAll, UnplannedCountsAl
 ghost use Rattle.install_laws.specs.Tables.{CountedHostsHaveTables, CountsTables};
 
 /// Each host that an installation doesn't count has a part each of whose tries met a planned fault, on the part or on
-/// its acknowledgement.
+/// its acknowledgement, or ended with a cable of its routes pulled.
 pub fn missed_hosts()
     ensures harmed { MissedHostsWereHarmed }
     ensures cost { EachMissCostsFaults }
 {}
 
-/// At most all hosts are counted; all exactly where each part was acknowledged, and so where no planned fault harms.
-/// A count shows the cause of each host that isn't counted, and this.
+/// At most all hosts are counted; all exactly where each part was acknowledged, and so where no planned fault harms and
+/// no cable goes. A count shows the cause of each host that isn't counted, and this.
 pub fn counted_hosts()
     ensures at_most { CountsAtMostAll }
     ensures acknowledged { CountsAllWhereAcknowledged }

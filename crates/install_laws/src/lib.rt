@@ -6,11 +6,11 @@
 //! | file of `specs/` | says |
 //! |---|---|
 //! | `Premises` | what an installation is made over |
-//! | `Cause` | that each host that isn't counted has a part each of whose tries met a planned fault |
+//! | `Cause` | that each host that isn't counted has a part each of whose tries met a planned fault or ended cut off |
 //! | `Counts` | how many hosts are counted, and when all are |
 //! | `Tables` | that each counted host has an active table |
-//! | `Kept` | what an installation leaves as it was, and that the same set can be installed again |
-//! | `Examples` | installations in which a part or its acknowledgement is lost |
+//! | `Kept` | what an installation leaves as it was, and that the same set can be installed again where no cable went |
+//! | `Examples` | installations in which a part or its acknowledgement is lost, or a cable is pulled |
 #![tactic(auto)]
 
 mod cause;

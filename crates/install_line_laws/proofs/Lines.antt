@@ -11,12 +11,12 @@ use Rattle.link_defs.specs.Fault.{accept}
 use Rattle.journal_defs.specs.Part.{Path, IsInPart}
 use Rattle.journal_defs.proofs.Members.{IsMember}
 use Rattle.map_defs.specs.NetMap.{host_of_vertex, hosts_of}
-use Rattle.map_defs.specs.Sameness.{address_of}
+use Rattle.map_defs.specs.Sameness.{IsMapOfPart, address_of}
 use Rattle.map_laws.proofs.Listed.{member-host}
 use Rattle.world_defs.specs.declared.event.Event.{Event}
 use Rattle.world_defs.specs.declared.effect.Effect.{Effect}
 use Rattle.world_defs.specs.Node.{NodeState, new_node}
-use Rattle.world_defs.specs.World.{WorldState, fabric_of, host_count, last_count, node_at, addresses, adopted_by, may_adopt, keeps_epoch}
+use Rattle.world_defs.specs.World.{WorldState, host_count, last_count, node_at, addresses, adopted_by, keeps_epoch}
 use Rattle.world_defs.specs.Step.{step}
 use Rattle.world_defs.proofs.LogViews.{installed}
 use Rattle.world_defs.specs.Logs as log
@@ -28,27 +28,30 @@ use Rattle.run_defs.specs.declared.line.InstallCause.{InstallCause}
 use Rattle.run_defs.specs.declared.line.InstallCause.TheVariants.{NoRoutes, Busy}
 use Rattle.run_defs.specs.Output.{Piece, OneLine, lines}
 use Rattle.run_defs.specs.Session.{SessionState, LastMap, LastRoutes, new_session, is_complete, complete_map}
-use Rattle.run_defs.specs.Outcome.{Outcome, says_only, event_of, stepped, step_or_idle, table_line, install_done, install_now, install, map_refused, routes_refused, outcome, set_of, adopt_cause}
+use Rattle.run_defs.specs.Outcome.{Outcome, says_only, event_of, stepped, step_or_idle, table_line, install_done, install_now, install, map_refused, routes_refused, outcome, set_of, may_install, refusal_cause}
 use Rattle.world_defs.specs.Table.{Adoption, ActiveTable, whole_table}
 use Rattle.run_defs.specs.Run.{Does, Runs}
 use Rattle.run_defs.specs.Run.Does.{determined, maps, circuits, routes}
 use Rattle.run_defs.specs.Run.Runs.{ended, goes_on}
 use Rattle.run_defs.specs.Headline.{IsCommandOf}
-use Rattle.act_defs.specs.Acts.{Adopts, AreAdoptable, IsReached}
-use Rattle.act_defs.proofs.Kept.{acted-net}
+use Rattle.act_defs.specs.Acts.{IsReached}
+use Rattle.cable_history.specs.History.{CableHistory, fabric_at}
+use Rattle.act_defs.proofs.Kept.{CablesKept}
+use Rattle.act_defs.proofs.Cables.{reached-cables}
 use Rattle.mapping_laws.specs.Runs.{IsSessionOf}
 use Rattle.mapping_laws.specs.Held.{HoldsRight}
-use Rattle.mapping_laws.proofs.Sessions.{does-stays, new-session}
-use Rattle.mapping_laws.proofs.Holding.{does-hold, new-holds}
+use Rattle.install_laws.proofs.Worlds.{stays-same, installed-of, installed-set}
+use Rattle.mapping_laws.proofs.Sessions.{mapped-stays, does-keep, does-stays, new-session}
+use Rattle.mapping_laws.proofs.Holding.{can-install, does-hold, new-holds}
 use Rattle.run_laws.specs.Acts.{IsActOf}
-use Rattle.install_laws.proofs.Leads.{leads-adoption, reached-further}
+use Rattle.install_laws.proofs.Leads.{Leads, leads-adoption, along-leads, reached-further}
 use Rattle.install_laws.proofs.Epochs.{adopted-unrevoked}
 use Rattle.run_laws.proofs.Ranked.{right_routes_are_adoptable}
-use Rattle.run_laws.proofs.Reaching.{run_is_reached}
-use Rattle.install_laws.specs.Premises.{IsJoined, CanInstall}
+use Rattle.run_laws.proofs.Reaching.{WereAdoptable, adoptable-now, run_is_reached}
+use Rattle.install_laws.specs.Premises.{IsJoined}
 use Rattle.install_laws.specs.Tables.{has_table}
 use Rattle.install_line_laws.specs.Runs.{RightRoutesAreShort, IsSetOfMap, RunRoutesAreOfMap, RunCanInstall, IsInstalledLine, InstalledLineIsTrue}
-use Rattle.install_laws.proofs.Installing.{missed-harmed, install-again}
+use Rattle.install_laws.proofs.Installing.{missed-harmed}
 use Rattle.install_laws.proofs.Counting.{counts-most, counts-tables, unharmed-all}
 use Rattle.table_laws.specs.Set.{IsActive, IsActiveOfSet}
 use Rattle.table_laws.proofs.Dependencies.{active-of_set}
@@ -77,9 +80,9 @@ done-last s hosts r = (refl, refl)
 
 install-last : (s : SessionState) (tries : ℕ) (o : Option LastRoutes) → LastIn s (Some (install s tries o))
 install-last s tries None = (refl, refl)
-install-last s tries (Some l) = by (not (is_idle s.world.links)) (not (may_adopt s.world l.routes))
+install-last s tries (Some l) = by (not (is_idle s.world.links)) (not (may_install s.world l))
   where
-    by : (busy other : Bool) → LastIn s (Some (if busy then says_only s (InstallRefused Busy ∷ []) else if other then says_only s (InstallRefused (adopt_cause s.world) ∷ []) else install_now s l tries))
+    by : (busy other : Bool) → LastIn s (Some (if busy then says_only s (InstallRefused Busy ∷ []) else if other then says_only s (InstallRefused (refusal_cause s.world l) ∷ []) else install_now s l tries))
     by true other = (refl, refl)
     by false true = (refl, refl)
     by false false = done-last s l.hosts (log.install (set_of s.world l) l.hosts tries (adopted_by s.world l.mapper l.routes))
@@ -116,17 +119,32 @@ outcome-last s (Duo e) = (refl, refl)
 -- A session that a run leads to.
 record IsLed (n : Network) (s : SessionState) : Type 0 where
   session : IsSessionOf n s
-  holds : HoldsRight n s
+  holds : HoldsRight s
   mapper : (l : LastMap) → complete_map s.last_map ≡ Some l → l.mapper < length n.hosts
-  set : (l : LastRoutes) → s.last_routes ≡ Some l → IsSetOfMap n l
+  set : (l : LastRoutes) → s.last_routes ≡ Some l → IsSetOfMap s.world.links.cables l
 
 -- what of it a command leaves
 record IsLast (n : Network) (s : SessionState) : Type 0 where
   mapper : (l : LastMap) → complete_map s.last_map ≡ Some l → l.mapper < length n.hosts
-  set : (l : LastRoutes) → s.last_routes ≡ Some l → IsSetOfMap n l
+  set : (l : LastRoutes) → s.last_routes ≡ Some l → IsSetOfMap s.world.links.cables l
 
-last-same : (n : Network) (s next : SessionState) → IsLed n s → next.last_map ≡ s.last_map → next.last_routes ≡ s.last_routes → IsLast n next
-last-same n s next led e f = record { mapper = λ l is. led.mapper l (ap complete_map (sym e) ∙ is); set = λ l is. led.set l (sym f ∙ is) }
+-- what was of a map stays so
+set-past : (w v : WorldState) (l : LastRoutes) → CablesKept w v → IsSetOfMap w.links.cables l → IsSetOfMap v.links.cables l
+set-past w v l k is =
+    let low = is.past in
+    let more = k.changes in
+    record {
+      made = is.made;
+      past = omega (arith, low, more);
+      is_host = subst (λ hs. l.mapper < length hs) (sym k.hosts) is.is_host;
+      rules = is.rules;
+      right = subst (λ n. IsMapOfPart n l.mapper is.made) (sym (k.past l.began low)) is.right;
+      routes = is.routes;
+      hosts = is.hosts;
+    }
+
+last-same : (n : Network) (s next : SessionState) → IsLed n s → CablesKept s.world next.world → next.last_map ≡ s.last_map → next.last_routes ≡ s.last_routes → IsLast n next
+last-same n s next led k e f = record { mapper = λ l is. led.mapper l (ap complete_map (sym e) ∙ is); set = λ l is. set-past s.world next.world l k (led.set l (sym f ∙ is)) }
 
 -- a map that was just made
 same-map : (r l : LastMap) → complete_map (Some r) ≡ Some l → r ≡ l
@@ -145,28 +163,12 @@ filter-passes test (h ∷ hs) = by (test h) refl (filter-passes test hs)
     by true e rest = (e, rest)
     by false e rest = rest
 
-kept-set : (n : Network) (r l : LastRoutes) → IsSetOfMap n r → Some r ≡ Some l → IsSetOfMap n l
-kept-set n r l is e = let one : r ≡ l = cc in subst (IsSetOfMap n) one is
+kept-set : (h : CableHistory) (r l : LastRoutes) → IsSetOfMap h r → Some r ≡ Some l → IsSetOfMap h l
+kept-set h r l is e = let one : r ≡ l = cc in subst (IsSetOfMap h) one is
 
-does-last : {s next : SessionState} {c : Command} {out : List Piece} → (n : Network) → IsActOf n c → IsLed n s → Does s c out next → IsLast n next
-does-last {s = s} {next = next} {c = c} n of_n led (determined e) = let k = subst (LastIn s) e (outcome-last s c) in last-same n s next led k.0 k.1
-does-last {s = s} {next = next} n of_n led (maps {host = host} {depth = depth} {tries = tries} after j m words none made printed left) =
-    let r : LastMap = record { mapper = host; words = words; made = m } in
-    subst (IsLast n) (sym left) (record { mapper = λ l e. subst (λ (x : LastMap). x.mapper < length n.hosts) (same-map r l e) of_n.0; set = led.set })
-does-last {s = s} {next = next} n of_n led (circuits told left) = last-same n s next led (ap (λ (x : SessionState). x.last_map) left) (ap (λ (x : SessionState). x.last_routes) left)
-does-last {s = s} {next = next} n of_n led (routes l found complete are printed left) =
-    let k = led.holds.complete l complete in
-    let hosts : List ℕ = filter (λ h. list_any (nat_eq h) (hosts_of l.made.vertices)) (addresses s.world) in
-    let r : LastRoutes = record { mapper = l.mapper; hosts = hosts; routes = found } in
-    let is : IsSetOfMap n r = record {
-      made = l.made;
-      is_host = led.mapper l complete;
-      rules = k.rules;
-      right = k.right;
-      routes = are;
-      hosts = filter-passes (λ h. list_any (nat_eq h) (hosts_of l.made.vertices)) (addresses s.world);
-    } in
-    subst (IsLast n) (sym left) (record { mapper = led.mapper; set = λ x e. kept-set n r x is e })
+-- the hosts of a session over a fabric
+session-hosts : (n : Network) (s : SessionState) → IsSessionOf n s → length s.world.links.cables.hosts ≡ length n.hosts
+session-hosts n s is = ap (λ (x : Network). length x.hosts) is.first
 
 command-of : (n : Network) (c : Command) → IsActOf n c → IsCommandOf n c
 command-of n (Map host depth tries) is = is
@@ -174,16 +176,38 @@ command-of n (Circuit host depth) is = is
 command-of n (Plan ahead kind) is = is.1
 command-of n c is = tt
 
-runs-led : {s last : SessionState} {cs : List Command} {out : List Piece} → (n : Network) → IsFabric n → AllByRecursion (IsActOf n) cs → IsLed n s → Runs s cs out last → IsLed n last
-runs-led n f all led ended = led
-runs-led {s = s} n f all led (goes_on {next = next} {c = c} d r e) =
+does-last : {s next : SessionState} {c : Command} {out : List Piece} → (n : Network) → IsActOf n c → IsLed n s → Does s c out next → IsLast n next
+does-last {s = s} {next = next} {c = c} n of_n led (determined e) = let k = subst (LastIn s) e (outcome-last s c) in last-same n s next led (does-keep {s = s} {next = next} {c = c} n (command-of n c of_n) (determined e)).cables k.0 k.1
+does-last {s = s} {next = next} n of_n led (maps {host = host} {depth = depth} {tries = tries} after j m words none made printed left) =
+    let r : LastMap = record { mapper = host; words = words; made = m; began = s.world.links.cables.changes } in
+    let k = (mapped-stays s.world after host tries j made.led).cables in
+    subst (IsLast n) (sym left) (record { mapper = λ l e. subst (λ (x : LastMap). x.mapper < length n.hosts) (same-map r l e) of_n.0; set = λ l e. set-past s.world after l k (led.set l e) })
+does-last {s = s} {next = next} n of_n led (circuits told left) = last-same n s next led (subst (λ (x : SessionState). CablesKept s.world x.world) (sym left) (stays-same s.world).cables) (ap (λ (x : SessionState). x.last_map) left) (ap (λ (x : SessionState). x.last_routes) left)
+does-last {s = s} {next = next} n of_n led (routes l found complete are printed left) =
+    let k = led.holds.complete l complete in
+    let hosts : List ℕ = filter (λ h. list_any (nat_eq h) (hosts_of l.made.vertices)) (addresses s.world) in
+    let r : LastRoutes = record { mapper = l.mapper; hosts = hosts; routes = found; began = l.began } in
+    let is : IsSetOfMap s.world.links.cables r = record {
+      made = l.made;
+      past = k.past;
+      is_host = subst (λ k. l.mapper < k) (sym (session-hosts n s led.session)) (led.mapper l complete);
+      rules = k.right.rules;
+      right = k.right.right;
+      routes = are;
+      hosts = filter-passes (λ h. list_any (nat_eq h) (hosts_of l.made.vertices)) (addresses s.world);
+    } in
+    subst (IsLast n) (sym left) (record { mapper = led.mapper; set = λ x e. kept-set s.world.links.cables r x is e })
+
+runs-led : {s last : SessionState} {cs : List Command} {out : List Piece} → (n : Network) → AllByRecursion (IsActOf n) cs → IsLed n s → Runs s cs out last → IsLed n last
+runs-led n all led ended = led
+runs-led {s = s} n all led (goes_on {next = next} {c = c} d r e) =
     let of_n = command-of n c all.0 in
     let on = does-last n all.0 led d in
-    let now : IsLed n next = record { session = does-stays n f of_n led.session d; holds = does-hold n f of_n led.session led.holds d; mapper = on.mapper; set = on.set } in
-    runs-led n f all.1 now r
+    let now : IsLed n next = record { session = does-stays n of_n led.session d; holds = does-hold n of_n led.session led.holds d; mapper = on.mapper; set = on.set } in
+    runs-led n all.1 now r
 
 run-led : (n : Network) (commands : List Command) (out : List Piece) (s : SessionState) → IsFabric n → AllByRecursion (IsActOf n) commands → Runs (new_session n) commands out s → IsLed n s
-run-led n commands out s f all r = runs-led n f all (record { session = new-session n; holds = new-holds n; mapper = λ l e. cc; set = λ l e. cc }) r
+run-led n commands out s f all r = runs-led n all (record { session = new-session n f; holds = new-holds n; mapper = λ l e. cc; set = λ l e. cc }) r
 
 pub run-set : RunRoutesAreOfMap
 run-set n commands out s l f all r are = (run-led n commands out s f all r).set l are
@@ -197,11 +221,11 @@ any-member h (g ∷ gs) e = by (nat_eq h g) refl e (any-member h gs)
     by true p q rest = inl ((Decides-eqb h g).0 p)
     by false p q rest = inr (rest q)
 
-all-joined : (n : Network) (w : WorldState) (l : LastRoutes) (k : IsSetOfMap n l) (hs : List ℕ) → AllByRecursion (λ h. list_any (nat_eq h) (hosts_of k.made.vertices) ≡ true) hs → AllByRecursion (λ h. h ≢ l.mapper → IsJoined (set_of w l) h) hs
-all-joined n w l k [] all = tt
-all-joined n w l k (h ∷ hs) all = (joined, all-joined n w l k hs all.1)
+all-joined : (h : CableHistory) (w : WorldState) (l : LastRoutes) (k : IsSetOfMap h l) (hs : List ℕ) → AllByRecursion (λ h. list_any (nat_eq h) (hosts_of k.made.vertices) ≡ true) hs → AllByRecursion (λ h. h ≢ l.mapper → IsJoined (set_of w l) h) hs
+all-joined g w l k [] all = tt
+all-joined g w l k (h ∷ hs) all = (joined, all-joined g w l k hs all.1)
   where
-    own : IsInPart n l.mapper (Host l.mapper)
+    own : IsInPart (fabric_at g l.began) l.mapper (Host l.mapper)
     own = record { cables = 0; path = Path.here }
 
     mapper : host_of_vertex k.made (k.right.origin (Host l.mapper)) ≡ Some l.mapper
@@ -218,24 +242,34 @@ accepted-idle : (s : LinkState) (b : Bool) → is_idle (if b then s else accept 
 accepted-idle s true = refl
 accepted-idle s false = refl
 
+-- nor does it change the count of changes
+accepted-changes : (s : LinkState) (b : Bool) → (if b then s else accept s).cables.changes ≡ s.cables.changes
+accepted-changes s true = refl
+accepted-changes s false = refl
+
 -- the last routes are adopted
 pub run-can_install : RunCanInstall
 run-can_install n commands out s l f all r are idle other =
     let led = run-led n commands out s f all r in
     let k = led.set l are in
     let w : WorldState = adopted_by s.world l.mapper l.routes in
-    let net = led.session.fabric in
-    let may = right_routes_are_adoptable n l.mapper k.made l.routes f k.rules k.right k.routes in
-    let adopts = leads-adoption s.world l.mapper l.routes (subst (λ m. AreAdoptable m l.routes) (sym net) may) other in
+    let cables : CableHistory = s.world.links.cables in
+    let past : Network = fabric_at cables l.began in
+    let fair = led.session.history.fabrics l.began in
+    let now = can-install s.world l (ap not other) in
+    let were : WereAdoptable cables l = record { past = k.past; may = right_routes_are_adoptable past l.mapper k.made l.routes fair k.rules k.right k.routes } in
+    let adopts = leads-adoption s.world l.mapper l.routes (adoptable-now s.world l led.session.history now.0 were) now.1 in
+    let reached : IsReached n w = reached-further n s.world w (run_is_reached n commands out s f all r) adopts in
     record {
-      reached = subst (λ m. IsReached m w) (sym (acted-net s.world (Adopts l.mapper l.routes) ∙ net)) (reached-further n s.world w (run_is_reached n commands out s f all r) adopts);
+      reached = subst (λ m. IsReached m w) (sym (reached-cables n w reached).first) reached;
       idle = accepted-idle s.world.links (keeps_epoch s.world l.routes) ∙ idle;
       adopted = refl;
-      unrevoked = adopted-unrevoked n s.world l.mapper l.routes (run_is_reached n commands out s f all r) other;
+      unchanged = accepted-changes s.world.links (keeps_epoch s.world l.routes);
+      unrevoked = adopted-unrevoked n s.world l.mapper l.routes (run_is_reached n commands out s f all r) now.1;
       set = record {
         in_order = k.routes.in_order;
-        few_turns = right-short n l.mapper k.made l.routes f k.is_host k.right k.routes;
-        joined = all-joined n s.world l k l.hosts k.hosts;
+        few_turns = right-short past l.mapper k.made l.routes fair k.is_host k.right k.routes;
+        joined = all-joined cables s.world l k l.hosts k.hosts;
       };
     }
 
@@ -244,14 +278,14 @@ record Prints (s next : SessionState) (tries acked total : ℕ) : Type 0 where
   last : LastRoutes
   are : s.last_routes ≡ Some last
   idle : is_idle s.world.links ≡ true
-  same : may_adopt s.world last.routes ≡ true
+  same : may_install s.world last ≡ true
   counted : installed (set_of s.world last) last.hosts tries (adopted_by s.world last.mapper last.routes) ≡ (acked, next.world)
   all : total ≡ length last.hosts
 
 abbrev PrintsIn : SessionState → ℕ → ℕ → ℕ → List Piece → Option Outcome → SessionState → Type 0
 PrintsIn s tries acked total rest o next = o ≡ Some (record { output = OneLine (Installed acked total) ∷ rest; after = next }) → Prints s next tries acked total
 
-done-prints : (s next : SessionState) (tries acked total : ℕ) (rest : List Piece) (l : LastRoutes) (r : Log ℕ) → s.last_routes ≡ Some l → is_idle s.world.links ≡ true → may_adopt s.world l.routes ≡ true → installed (set_of s.world l) l.hosts tries (adopted_by s.world l.mapper l.routes) ≡ came_to r → PrintsIn s tries acked total rest (Some (install_done s l.hosts r)) next
+done-prints : (s next : SessionState) (tries acked total : ℕ) (rest : List Piece) (l : LastRoutes) (r : Log ℕ) → s.last_routes ≡ Some l → is_idle s.world.links ≡ true → may_install s.world l ≡ true → installed (set_of s.world l) l.hosts tries (adopted_by s.world l.mapper l.routes) ≡ came_to r → PrintsIn s tries acked total rest (Some (install_done s l.hosts r)) next
 done-prints s next tries acked total rest l r are idle same is e =
     let k : ℕ = r.value in
     let w : WorldState = r.world in
@@ -276,11 +310,11 @@ refusal-prints s next tries acked total rest cause e =
 
 install-prints : (s next : SessionState) (tries acked total : ℕ) (rest : List Piece) (o : Option LastRoutes) → s.last_routes ≡ o → PrintsIn s tries acked total rest (Some (install s tries o)) next
 install-prints s next tries acked total rest None are e = refusal-prints s next tries acked total rest NoRoutes e
-install-prints s next tries acked total rest (Some l) are e = by (is_idle s.world.links) (may_adopt s.world l.routes) refl refl e
+install-prints s next tries acked total rest (Some l) are e = by (is_idle s.world.links) (may_install s.world l) refl refl e
   where
-    by : (idle may : Bool) → is_idle s.world.links ≡ idle → may_adopt s.world l.routes ≡ may → PrintsIn s tries acked total rest (Some (if not idle then says_only s (InstallRefused Busy ∷ []) else if not may then says_only s (InstallRefused (adopt_cause s.world) ∷ []) else install_now s l tries)) next
+    by : (idle may : Bool) → is_idle s.world.links ≡ idle → may_install s.world l ≡ may → PrintsIn s tries acked total rest (Some (if not idle then says_only s (InstallRefused Busy ∷ []) else if not may then says_only s (InstallRefused (refusal_cause s.world l) ∷ []) else install_now s l tries)) next
     by false other p q d = refusal-prints s next tries acked total rest Busy d
-    by true false p q d = refusal-prints s next tries acked total rest (adopt_cause s.world) d
+    by true false p q d = refusal-prints s next tries acked total rest (refusal_cause s.world l) d
     by true true p q d =
         let w : WorldState = adopted_by s.world l.mapper l.routes in
         done-prints s next tries acked total rest l (log.install (set_of s.world l) l.hosts tries w) are p q refl d
@@ -303,16 +337,16 @@ filter-all p (x ∷ xs) all = by (p x) refl all (filter-most p xs) (filter-all p
     by false e more most rest = absurd (omega (arith, more, most))
 
 -- the adopter's table is whole at once
-adopter-has : (n : Network) (s : SessionState) (l : LastRoutes) → IsLed n s → IsSetOfMap n l → has_table (adopted_by s.world l.mapper l.routes) l.mapper ≡ true
+adopter-has : (n : Network) (s : SessionState) (l : LastRoutes) → IsLed n s → IsSetOfMap s.world.links.cables l → has_table (adopted_by s.world l.mapper l.routes) l.mapper ≡ true
 adopter-has n s l led k =
     let m : NodeState = record (node_at s.world l.mapper) { table = whole_table l.routes l.mapper (set_of s.world l).epoch } in
-    let hosts : host_count s.world ≡ length n.hosts = led.session.world.hosts ∙ ap (λ (x : Network). length x.hosts) led.session.fabric in
+    let hosts : host_count s.world ≡ length s.world.links.cables.hosts = led.session.world.hosts in
     let there = k.is_host in
     ap (λ (x : NodeState). is_some x.table.active) (get_or-set_same s.world.nodes l.mapper m (new_node 0) (omega (arith, hosts, there)))
 
 -- what is active in a world that has adopted a set
-active-of : (a : Adoption) (hosts : List ℕ) (v : WorldState) → CanInstall a hosts v → (h : ℕ) (t : ActiveTable) → (node_at v h).table.active ≡ Some t → IsActiveOfSet a.epoch a.routes h t
-active-of a hosts v can h t e = subst (λ o. IsActive o h t) can.adopted (active-of_set (fabric_of v) v h t can.reached e)
+active-of : (n : Network) (a : Adoption) (v : WorldState) → IsReached n v → v.adopted ≡ Some a → (h : ℕ) (t : ActiveTable) → (node_at v h).table.active ≡ Some t → IsActiveOfSet a.epoch a.routes h t
+active-of n a v reached adopted h t e = subst (λ o. IsActive o h t) adopted (active-of_set n v h t reached e)
 
 line-so : (n : Network) (commands : List Command) (out : List Piece) (s next : SessionState) (tries acked total : ℕ) → IsFabric n → AllByRecursion (IsActOf n) commands → Runs (new_session n) commands out s → Prints s next tries acked total → IsInstalledLine s next tries acked total
 line-so n commands out s next tries acked total f all r p =
@@ -328,7 +362,9 @@ line-so n commands out s next tries acked total f all r p =
     let has : (installed (set_of s.world p.last) p.last.hosts tries w).0 ≤ length (filter (has_table (installed (set_of s.world p.last) p.last.hosts tries w).1) p.last.hosts) = counts-tables (set_of s.world p.last) p.last.hosts tries w can adopter in
     let now : (installed (set_of s.world p.last) p.last.hosts tries w).0 ≤ length (filter (has_table next.world) p.last.hosts) = subst (λ v. (installed (set_of s.world p.last) p.last.hosts tries w).0 ≤ length (filter (has_table v) p.last.hosts)) behind has in
     let counted : came_to (log.install (set_of s.world p.last) p.last.hosts tries w) ≡ (acked, next.world) = p.counted in
-    let again = subst (CanInstall (set_of s.world p.last) p.last.hosts) behind (install-again (set_of s.world p.last) p.last.hosts tries w can) in
+    let first : Network = fabric_at w.links.cables 0 in
+    let reached : IsReached first next.world = subst (IsReached first) behind (reached-further first w (log.install (set_of s.world p.last) p.last.hosts tries w).world can.reached (installed-of Leads along-leads (set_of s.world p.last) p.last.hosts tries w)) in
+    let adopted : next.world.adopted ≡ Some (set_of s.world p.last) = sym (ap (λ v. v.adopted) behind) ∙ installed-set (set_of s.world p.last) p.last.hosts tries w in
     record {
       last = p.last;
       are = p.are;
@@ -338,9 +374,10 @@ line-so n commands out s next tries acked total f all r p =
       at_most = omega (arith, most, count, total_is);
       tables = omega (arith, now, count);
       all_tables = λ e. filter-all (has_table next.world) p.last.hosts (omega (arith, now, count, total_is, e));
-      of_set = active-of (set_of s.world p.last) p.last.hosts next.world again;
+      of_set = active-of first (set_of s.world p.last) next.world reached adopted;
       cause = λ left. missed-harmed (set_of s.world p.last) p.last.hosts tries w can (there left);
-      unharmed = λ some left same. sym count ∙ unharmed-all (set_of s.world p.last) p.last.hosts tries w can some (there left) (ap (λ x. x.1.harmed) p.counted ∙ same) ∙ sym p.all;
+      unharmed = λ some left same calm. sym count ∙ unharmed-all (set_of s.world p.last) p.last.hosts tries w can some (there left) (ap (λ x. x.1.harmed) p.counted ∙ same)
+          (ap (λ x. x.1.links.cables.changes) p.counted ∙ calm ∙ sym (accepted-changes s.world.links (keeps_epoch s.world p.last.routes))) ∙ sym p.all;
     }
 
 pub line-true : InstalledLineIsTrue

@@ -1,10 +1,15 @@
 -- Lawful traffic stays lawful while packets go on, and runs out.
-use Rattle.std.proofs.Common.{◌≡◌, ◌<◌, ℕ, zero, suc, Bool, true, false, List, [], ◌∷◌, ◌++◌, get_or, set, ⊎_elim, Option, Some, None, IfSome, refl, sym, ap, ◌∙◌, subst, true≢false}
+use Rattle.std.proofs.Common.{◌≡◌, ◌<◌, ℕ, zero, suc, Bool, true, false, List, [], ◌∷◌, ◌++◌, get_or, set, ◌⊎◌, inl, inr, ⊎_elim, Option, Some, None, IfSome, refl, sym, ap, ◌∙◌, subst, true≢false}
+use Rattle.std.specs.List.{AllByRecursion}
 use Rattle.net_defs.specs.declared.route.Route.{Route}
 use Rattle.net_defs.specs.Network.{Network}
-use Rattle.cable_history.specs.History.{CableHistory}
+use Rattle.cable_history.specs.History.{CableHistory, IsHistory, fabric_at, stood_at, is_in_place}
+use Rattle.cable_history.specs.Crossed.{channels_at, is_standing, is_new}
+use Rattle.cable_history.proofs.Now.{now_is_fabric}
+use Rattle.cable_history.proofs.Standing.{compact}
+use Rattle.link_defs.specs.Kinds.{is_gm}
+use Rattle.link_defs.proofs.KindsKept.{is_gm-stripped}
 use Rattle.packet_defs.specs.Packet.{stripped}
-use Rattle.net_defs.specs.Dependencies.{IsBefore}
 use Rattle.link_defs.specs.declared.moved.Moved.{Moved}
 use Rattle.link_defs.specs.declared.moved.Moved.TheVariants.{To, AtHost, Dropped as MovedDropped, Blocked as MovedBlocked, Empty}
 use Rattle.link_defs.specs.declared.moved.Course.{Course}
@@ -18,7 +23,7 @@ use Rattle.world_defs.specs.declared.effect.Effect.TheVariants.{Reset as WasRese
 use Rattle.world_defs.specs.declared.arrival.Arrival.{Arrival}
 use Rattle.world_defs.specs.declared.arrival.Arrival.TheVariants.{Heard as Hears, Dropped as HostDropped, NotMine as ArrivalNotMine}
 use Rattle.world_defs.specs.EightBits.{IsByteEvent}
-use Rattle.world_defs.specs.Table.{Adoption}
+use Rattle.world_defs.specs.Table.{Adoption, at_in}
 use Rattle.world_defs.specs.Node.{NodeState}
 use Rattle.world_defs.specs.Hearing.{hear}
 use Rattle.world_defs.specs.World.{WorldState, host_count, new_world, node_at, with_links}
@@ -31,14 +36,14 @@ use Rattle.world_laws.proofs.Draining.{advance-links, drain-still}
 use Rattle.world_laws.proofs.Resets.{no_resets-idle}
 use Rattle.act_defs.specs.Acts.{Act, Happens, acted, acted_all, MayAct, MayActAll, IsReached}
 use Rattle.net_defs.specs.RouteSet.{channels_of_all}
-use Rattle.table_laws.proofs.Dependencies.{adopted-adoptable}
+use Rattle.table_laws.proofs.Dependencies.{rise-all, routes-rise, adopted-adoptable}
 use Rattle.lawful_laws.specs.Lawful.{AdvanceKeepsLawful}
 use Rattle.lawful_laws.specs.Stuck.{LawfulIsNotStuck, LawfulDrainsIdle, LawfulNeedsNoReset}
 use Rattle.world_defs.proofs.Kept.{step-cables}
 use Rattle.act_defs.proofs.Cables.{reached-cables}
-use Rattle.lawful_laws.proofs.FirstEnds.{LeavesItsTail, first-tail}
-use Rattle.lawful_laws.proofs.Ahead.{IsLedBy, led-next}
-use Rattle.lawful_laws.proofs.Stuck.{led-flows}
+use Rattle.lawful_laws.proofs.Ahead.{goes_on, ahead, ahead-next, next-stands, message-old, unmet-old, IsLedBy, led-next}
+use Rattle.lawful_laws.proofs.Stands.{packet-stands}
+use Rattle.lawful_laws.proofs.Stuck.{RisesAlong, RisesOver, led-flows}
 use Rattle.lawful_laws.proofs.Lawful.{led-lawful}
 
 -- what holds of the packet in each channel holds so after an advance
@@ -72,17 +77,48 @@ advance_of-in_each : (F : ℕ → Held → Type 0) (s : LinkState) (c : ℕ) (o 
 advance_of-in_each F s c None k is here = is
 advance_of-in_each F s c (Some held) k is here = gone_on-in_each F s c held (course s.cables c held.wire) k is here refl
 
--- a packet that no flip has met, led by a route of a set
+-- a packet that no flip has met, of a cable in place, led by a route of a set, that is a message or meets no new cable
 record IsPlain (h : CableHistory) (routes : List Route) (c : ℕ) (held : Held) : Type 0 where
   unmarked : held.marked ≡ false
+  stands : is_standing h c ≡ true
   led : IsLedBy h routes c held.wire
+  stopped : (is_gm held.wire ≡ true) ⊎ AllByRecursion (λ d. is_new h d ≡ false) (ahead h is_in_place c held.wire)
+
+-- it goes into no new cable
+plain-old : (h : CableHistory) (routes : List Route) (c : ℕ) (held : Held) (next : ℕ) → IsHistory h → IsPlain h routes c held → course h c held.wire ≡ Enters next → is_new h next ≡ false
+plain-old h routes c held next history is e = ⊎_elim (λ gm. message-old h c held.wire next e gm) (λ all. unmet-old h c held.wire next history is.stands e all) is.stopped
+
+-- and stays so in the next channel
+plain-next : (h : CableHistory) (routes : List Route) (c : ℕ) (held : Held) (next : ℕ) → IsHistory h → IsPlain h routes c held → course h c held.wire ≡ Enters next → IsPlain h routes next (record held { wire = stripped held.wire })
+plain-next h routes c held next history is e =
+    let x = goes_on h c held.wire next e in
+    let further : ahead h is_in_place c held.wire ≡ c ∷ ahead h is_in_place next (stripped held.wire) = ahead-next h is_in_place (now_is_fabric h history) c held.wire next is.stands e in
+    record {
+      unmarked = is.unmarked;
+      stands = next-stands h c held.wire next e;
+      led = led-next h routes c held.wire next history is.stands e (plain-old h routes c held next history is e) is.led;
+      stopped = ⊎_elim (λ gm. inl (is_gm-stripped held.wire x.turn x.front ∙ gm)) (λ all. inr (subst (AllByRecursion (λ d. is_new h d ≡ false)) further all).1) is.stopped;
+    }
 
 if-each : {X : Type 0} (o : Option X) (P : X → Type 0) → ((x : X) → o ≡ Some x → P x) → IfSome o P
 if-each None P f = tt
 if-each (Some x) P f = f x refl
 
-lawful-plain : (w : WorldState) (c : ℕ) (held : Held) → IsLawful w c held → IsPlain w.links.cables (adopted_routes w) c held
-lawful-plain w c held l = record { unmarked = l.unmarked; led = record { place = l.place; route = l.route; behind = l.behind; there = l.there; ends_it = l.ends_it } }
+lawful-plain : (n : Network) (w : WorldState) (c : ℕ) (held : Held) → IsReached n w → packet_in w.links c ≡ Some held → IsLawful w c held → IsPlain w.links.cables (adopted_routes w) c held
+lawful-plain n w c held r e l = record {
+  unmarked = l.unmarked;
+  stands = packet-stands n w c held r e;
+  led = record {
+    accepted = l.accepted;
+    place = l.place;
+    route = l.route;
+    behind = l.behind;
+    beyond = l.beyond;
+    there = l.there;
+    within = ap (λ k. channels_at w.links.cables k l.route.from l.route.walk) (reached-cables n w r).accepted ∙ l.within;
+  };
+  stopped = l.stopped;
+}
 
 -- an advance adopts nothing
 arrived-adopted : (w : WorldState) (h : ℕ) (o : Arrival × NodeState) → (arrived w h o).1.adopted ≡ w.adopted
@@ -101,53 +137,58 @@ advance-adopted : (w : WorldState) (c : ℕ) → (step w (Advance c)).1.adopted 
 unfolding advanced
 advance-adopted w c = advanced_by-adopted w (advance w.links c)
 
-reached-tail : (n : Network) (w : WorldState) (c : ℕ) → IsReached n w → LeavesItsTail w.links.cables c
-reached-tail n w c r = subst (λ h. LeavesItsTail h c) (sym (reached-cables n w r)) (first-tail n c r.fabric)
-
-plain-now : (w : WorldState) → IsLawfulTraffic w → IsInEach (IsPlain w.links.cables (adopted_routes w)) w.links
-plain-now w t j = if-each (packet_in w.links j) (IsPlain w.links.cables (adopted_routes w) j) (λ held e. lawful-plain w j held (t.packets j held e))
+plain-now : (n : Network) (w : WorldState) → IsReached n w → IsLawfulTraffic w → IsInEach (IsPlain w.links.cables (adopted_routes w)) w.links
+plain-now n w r t j = if-each (packet_in w.links j) (IsPlain w.links.cables (adopted_routes w) j) (λ held e. lawful-plain n w j held r e (t.packets j held e))
 
 -- what leaves cables and set alone leaves lawful traffic, where each packet is led by the set
-plain-then : (w v : WorldState) → v.links.cables ≡ w.links.cables → v.adopted ≡ w.adopted → IsInEach (IsPlain w.links.cables (adopted_routes w)) v.links → IsLawfulTraffic v
-plain-then w v cables adopted then =
+plain-then : (w v : WorldState) → w.links.cables.accepted ≡ at_in w.adopted → v.links.cables ≡ w.links.cables → v.adopted ≡ w.adopted → IsInEach (IsPlain w.links.cables (adopted_routes w)) v.links → IsLawfulTraffic v
+plain-then w v at cables adopted then =
     let same : IsInEach (IsPlain v.links.cables (adopted_routes v)) v.links =
     subst (λ k. IsInEach (IsPlain k (adopted_routes v)) v.links) (sym cables) (subst (λ o. IsInEach (IsPlain w.links.cables (routes_in o)) v.links) (sym adopted) then) in
-    record { packets = λ j held e. let p : IsPlain v.links.cables (adopted_routes v) j held = subst (λ o. IfSome o (IsPlain v.links.cables (adopted_routes v) j)) e (same j) in led-lawful v j held p.unmarked p.led }
+    let here : v.links.cables.accepted ≡ at_in v.adopted = ap (λ h. h.accepted) cables ∙ at ∙ sym (ap at_in adopted) in
+    record { packets = λ j held e. let p : IsPlain v.links.cables (adopted_routes v) j held = subst (λ o. IfSome o (IsPlain v.links.cables (adopted_routes v) j)) e (same j) in led-lawful v j held here p.unmarked p.led p.stopped }
 
 pub advance-lawful : AdvanceKeepsLawful
 advance-lawful n w c r t =
     let v : WorldState = (step w (Advance c)).1 in
+    let has = reached-cables n w r in
     let F : ℕ → Held → Type 0 = IsPlain w.links.cables (adopted_routes w) in
-    let now : IsInEach F w.links = plain-now w t in
-    let carried : IsCarried w.links.cables F = λ d next held e is. record { unmarked = is.unmarked; led = led-next w.links.cables (adopted_routes w) d held.wire next (reached-tail n w d r) e is.led } in
+    let now : IsInEach F w.links = plain-now n w r t in
+    let carried : IsCarried w.links.cables F = λ d next held e is. plain-next w.links.cables (adopted_routes w) d held next has.history is e in
     let then : IsInEach F v.links = subst (IsInEach F) (sym (advance-links w c)) (advance_of-in_each F w.links c (packet_in w.links c) carried now (now c)) in
-    plain-then w v (step-cables w (Advance c)) (advance-adopted w c) then
+    plain-then w v has.accepted (step-cables w (Advance c) refl) (advance-adopted w c) then
 
 -- a reset takes a packet away at most
-reset_by-lawful : (w : WorldState) (o : Bool × LinkState) → o.1.cables ≡ w.links.cables → IsInEach (IsPlain w.links.cables (adopted_routes w)) o.1 → IsLawfulTraffic w → IsLawfulTraffic (of_links w WasReset o).1
-reset_by-lawful w (true, l) same is t = plain-then w (with_links w l) same refl is
-reset_by-lawful w (false, l) same is t = t
+reset_by-lawful : (w : WorldState) (o : Bool × LinkState) → w.links.cables.accepted ≡ at_in w.adopted → o.1.cables ≡ w.links.cables → IsInEach (IsPlain w.links.cables (adopted_routes w)) o.1 → IsLawfulTraffic w → IsLawfulTraffic (of_links w WasReset o).1
+reset_by-lawful w (true, l) at same is t = plain-then w (with_links w l) at same refl is
+reset_by-lawful w (false, l) at same is t = t
 
-pub reset-lawful : (w : WorldState) (c : ℕ) → IsLawfulTraffic w → IsLawfulTraffic (step w (Reset c)).1
+pub reset-lawful : (n : Network) (w : WorldState) (c : ℕ) → IsReached n w → IsLawfulTraffic w → IsLawfulTraffic (step w (Reset c)).1
 unfolding was_reset
-reset-lawful w c t = reset_by-lawful w (reset w.links c) refl (with_packet-in_each (IsPlain w.links.cables (adopted_routes w)) w.links c None (plain-now w t) tt) t
+reset-lawful n w c r t = reset_by-lawful w (reset w.links c) (reached-cables n w r).accepted refl (with_packet-in_each (IsPlain w.links.cables (adopted_routes w)) w.links c None (plain-now n w r t) tt) t
 
 -- numbers that rise along the adopted routes
-record HasNumbers (n : Network) (routes : List Route) : Type 0 where
-  number : ℕ → ℕ
-  rises : (c d : ℕ) → IsBefore (channels_of_all n routes) c d → number c < number d
+pub record HasNumbers (h : CableHistory) (routes : List Route) : Type 0 where
+  pub number : ℕ → ℕ
+  pub rises : RisesOver h number routes
 
-no-before : (c d : ℕ) → IsBefore {C = ℕ} [] c d → ⊥
-no-before c d b = let none = b.there in cc
-
-numbers-of : (n : Network) (w : WorldState) (o : Option Adoption) → IsReached n w → w.adopted ≡ o → HasNumbers n (routes_in o)
-numbers-of n w None r e = record { number = λ c. c; rises = λ c d b. absurd (no-before c d b) }
-numbers-of n w (Some a) r e = let may = (adopted-adoptable n w a r e).1 in record { number = may.number; rises = may.rises }
+pub numbers-of : (n : Network) (w : WorldState) (o : Option Adoption) → IsReached n w → w.adopted ≡ o → HasNumbers w.links.cables (routes_in o)
+numbers-of n w None r e = record { number = λ c. c; rises = tt }
+numbers-of n w (Some a) r e =
+    let h : CableHistory = w.links.cables in
+    let may = (adopted-adoptable n w a r e).1 in
+    let at : a.at ≡ h.accepted = ap at_in (sym e) ∙ sym (reached-cables n w r).accepted in
+    let there = routes-rise h a.at may.number a.routes (rise-all may.number (channels_of_all (fabric_at h a.at) a.routes) may.rises) in
+    let number : ℕ → ℕ = λ c. may.number (compact (stood_at a.at) h.wires c) in
+    record { number = number; rises = subst (λ k. AllByRecursion (λ x. RisesAlong number (channels_at h k x.from x.walk)) a.routes) at there }
 
 pub lawful-flows : LawfulIsNotStuck
 lawful-flows n w r t =
-    let x : HasNumbers n (adopted_routes w) = numbers-of n w w.adopted r refl in
-    led-flows n w.links (adopted_routes w) x.number (reached-cables n w r) r.fabric x.rises (λ c held e. (lawful-plain w c held (t.packets c held e)).led)
+    let h : CableHistory = w.links.cables in
+    let history = (reached-cables n w r).history in
+    let x : HasNumbers h (adopted_routes w) = numbers-of n w w.adopted r refl in
+    led-flows w.links (adopted_routes w) x.number history x.rises
+    (λ c held e. let p = lawful-plain n w c held r e (t.packets c held e) in record { stands = p.stands; led = p.led; old = λ next to. plain-old h (adopted_routes w) c held next history p to })
 
 -- events lead from reached worlds to reached worlds
 may-last : (w : WorldState) (acts : List Act) (a : Act) → MayActAll w acts → MayAct (acted_all w acts) a → MayActAll w (acts ++ a ∷ [])

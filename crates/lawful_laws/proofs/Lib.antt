@@ -1,5 +1,5 @@
 pub mod Ahead
-pub mod FirstEnds
+pub mod Stands
 pub mod Stuck
 pub mod Bodies
 pub mod Turns

@@ -16,7 +16,7 @@ use Rattle.mapping_defs.specs.Mapping.{MappingBody, mapping_bytes, decode_mappin
 use Rattle.mapping_defs.specs.Mapping.MappingBody.{HostProbe, HostReply, Loopback, Part, PartAck}
 use Rattle.mapping_defs.proofs.Mappings.{mapping-read}
 use Rattle.lawful_laws.specs.Probes.{is_probe, ProbeIsRead, ProbeIsNothingElse, GmIsNoProbe, PartIsNoProbe}
-use Rattle.lawful_laws.specs.Former.{IsFormer}
+use Rattle.lawful_laws.specs.Former.{IsPacketOf}
 use Rattle.lawful_laws.proofs.Bodies.{probe-read}
 
 -- a head without the route bytes in front
@@ -91,8 +91,8 @@ gm-no_probe route payload p =
     let g = head_of p.route Mapping (mapping_bytes p.body) in
     heads-apart p.route route (mapping_bytes p.body) payload (sym (head-push g (crc g)) ∙ sym (ap head p.written) ∙ head-push h (crc h))
 
-pub gm-no_former : (number : ℕ) (route : List ℤ) (payload : List ℕ) → IsFormer number (packet_of route Gm payload) → ⊥
-gm-no_former number route payload p =
+pub gm-no_former : (test : MappingBody → Bool) (route : List ℤ) (payload : List ℕ) → IsPacketOf test (packet_of route Gm payload) → ⊥
+gm-no_former test route payload p =
     let h = head_of route Gm payload in
     let g = head_of p.route Mapping (mapping_bytes p.body) in
     heads-apart p.route route (mapping_bytes p.body) payload (sym (head-push g (crc g)) ∙ sym (ap head p.written) ∙ head-push h (crc h))

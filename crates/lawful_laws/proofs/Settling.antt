@@ -43,7 +43,7 @@ of_clear e = inr (λ is. is)
 
 lawful-on : (n : Network) (w : WorldState) (e : Event) → IsReached n w → (IsOfClear e → IsLawfulTraffic w) → IsOfClear e → IsLawfulTraffic (step w e).1
 lawful-on n w (Advance c) r here is = advance-lawful n w c r (here tt)
-lawful-on n w (Reset c) r here is = reset-lawful w c (here tt)
+lawful-on n w (Reset c) r here is = reset-lawful n w c r (here tt)
 lawful-on n w e r here is = absurd is
 
 -- it is so where it is lawful as each clear begins, since an advance and a reset leave it lawful

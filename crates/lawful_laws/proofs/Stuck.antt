@@ -1,13 +1,13 @@
 -- Lawful traffic isn't stuck: a packet that can't go on waits for a channel of a greater number.
 use Rattle.std.proofs.Common.{◌≡◌, ◌<◌, ◌≤◌, ◌+◌, ℕ, zero, suc, Bool, true, false, List, [], ◌∷◌, ◌++◌, length, get_or, set, Option, Some, None, IsSome, refl, sym, ap, ◌∙◌, subst, arith, true≢false, ⊎_elim}
-use Rattle.std.specs.List.{slice_get}
+use Rattle.std.specs.List.{slice_get, AllByRecursion}
 use Rattle.std.proofs.lemmas.Bool.{cases_lt}
 use Rattle.std.proofs.lemmas.Option.{same_Some}
 use Rattle.net_defs.specs.declared.route.Route.{Route}
-use Rattle.net_defs.specs.Network.{Network, IsFabric}
-use Rattle.net_defs.specs.Route.{host_port, channels_of}
-use Rattle.cable_history.specs.History.{first_history}
-use Rattle.net_defs.specs.Dependencies.{IsNext, IsBefore}
+use Rattle.cable_history.specs.History.{CableHistory, IsHistory, is_left}
+use Rattle.cable_history.specs.Crossed.{channels_at, is_standing, is_new}
+use Rattle.cable_history.proofs.Left.{left-fabric, left-passes}
+use Rattle.net_defs.specs.Dependencies.{IsNext}
 use Rattle.link_defs.specs.declared.moved.Course.{Course}
 use Rattle.link_defs.specs.declared.moved.Course.TheVariants.{Arrives, Enters, Drops}
 use Rattle.link_defs.specs.Links.{Held, LinkState, packet_in, emptied}
@@ -15,10 +15,7 @@ use Rattle.link_defs.specs.Advance.{course, entered, gone_on, advance_of, advanc
 use Rattle.link_defs.specs.Hops.{changes, is_stuck}
 use Rattle.link_defs.proofs.HopsLeft.{still-advance}
 use Rattle.link_defs.proofs.Idling.{stuck-still}
-use Rattle.net_defs.specs.RouteSet.{channels_of_all}
-use Rattle.act_defs.proofs.Cables.{first-crossed}
-use Rattle.lawful_laws.proofs.FirstEnds.{first-tail}
-use Rattle.lawful_laws.proofs.Ahead.{IsLedBy, ahead-two}
+use Rattle.lawful_laws.proofs.Ahead.{IsLedBy, ahead-two, next-stands}
 
 -- a packet that can't go on: the channel that it wants next is full
 record IsBlocked (s : LinkState) (c : ℕ) (held : Held) : Type 0 where
@@ -51,21 +48,34 @@ next-in : (c d : ℕ) (behind more : List ℕ) → IsNext c d (behind ++ c ∷ d
 next-in c d [] more = IsNext.here
 next-in c d (b ∷ behind) more = IsNext.later (next-in c d behind more)
 
-channels-at : (n : Network) (routes : List Route) (place : ℕ) (r : Route) → slice_get routes place ≡ Some r → slice_get (channels_of_all n routes) place ≡ Some (channels_of n r.from r.walk)
-channels-at n [] place r e = cc
-channels-at n (x ∷ routes) zero r e = ap (λ y. Some (channels_of n y.from y.walk)) (same_Some x r e)
-channels-at n (x ∷ routes) (suc place) r e = channels-at n routes place r e
+-- numbers that rise along channels
+abbrev pub RisesAlong : (ℕ → ℕ) → List ℕ → Type 0
+RisesAlong number cs = (c d : ℕ) → IsNext c d cs → number c < number d
 
-led-before : (n : Network) (routes : List Route) (c : ℕ) (wire : List ℕ) (next : ℕ) → IsFabric n → IsLedBy (first_history n) routes c wire → course (first_history n) c wire ≡ Enters next → IsBefore (channels_of_all n routes) c next
-led-before n routes c wire next f l e =
-    let two = ahead-two (first_history n) c wire next (first-tail n c f) e in
-    let crossed = first-crossed n (Some (host_port l.route.from)) l.route.walk in
-    record {
-      place = l.place;
-      route = channels_of n l.route.from l.route.walk;
-      there = channels-at n routes l.place l.route l.there;
-      next = subst (IsNext c next) (sym (sym crossed ∙ l.ends_it ∙ ap (λ x. l.behind ++ x) two.1)) (next-in c next l.behind two.0);
-    }
+-- numbers that rise along the routes of a set, as the fabric stood when the cables were accepted
+abbrev pub RisesOver : CableHistory → (ℕ → ℕ) → List Route → Type 0
+RisesOver h number routes = AllByRecursion (λ r. RisesAlong number (channels_at h h.accepted r.from r.walk)) routes
+
+route-rises : (P : Route → Type 0) (routes : List Route) (place : ℕ) (r : Route) → AllByRecursion P routes → slice_get routes place ≡ Some r → P r
+route-rises P [] place r all e = cc
+route-rises P (x ∷ routes) zero r all e = subst P (same_Some x r e) all.0
+route-rises P (x ∷ routes) (suc place) r all e = route-rises P routes place r all.1 e
+
+-- a packet that a route leads, and that goes into no new cable
+pub record MayGo (h : CableHistory) (routes : List Route) (c : ℕ) (wire : List ℕ) : Type 0 where
+  pub stands : is_standing h c ≡ true
+  pub led : IsLedBy h routes c wire
+  pub old : (next : ℕ) → course h c wire ≡ Enters next → is_new h next ≡ false
+
+led-above : (h : CableHistory) (routes : List Route) (number : ℕ → ℕ) (c : ℕ) (wire : List ℕ) (next : ℕ) → IsHistory h → RisesOver h number routes → MayGo h routes c wire → course h c wire ≡ Enters next → number c < number next
+led-above h routes number c wire next is rises m e =
+    let l = m.led in
+    let here = left-passes h c m.stands l.accepted in
+    let there = left-passes h next (next-stands h c wire next e) (m.old next e) in
+    let two = ahead-two h (is_left h) (left-fabric h is) c wire next here e there in
+    let whole : channels_at h h.accepted l.route.from l.route.walk ≡ l.behind ++ (c ∷ next ∷ (two.0 ++ l.beyond)) = l.within ∙ ap (λ x. l.behind ++ (x ++ l.beyond)) two.1 in
+    let next_to : IsNext c next (channels_at h h.accepted l.route.from l.route.walk) = subst (IsNext c next) (sym whole) (next-in c next l.behind (two.0 ++ l.beyond)) in
+    route-rises (λ r. RisesAlong number (channels_at h h.accepted r.from r.walk)) routes l.place l.route rises l.there c next next_to
 
 -- a number that no channel below a bound goes beyond
 abbrev top : (ℕ → ℕ) → ℕ → ℕ
@@ -106,9 +116,9 @@ some-packet None is = absurd (true≢false (sym is))
 some-packet (Some held) is = (held, refl)
 
 -- links whose packets are led by routes along which numbers rise
-pub led-flows : (n : Network) (s : LinkState) (routes : List Route) (number : ℕ → ℕ) → s.cables ≡ first_history n → IsFabric n → ((c d : ℕ) → IsBefore (channels_of_all n routes) c d → number c < number d)
-    → ((c : ℕ) (held : Held) → packet_in s c ≡ Some held → IsLedBy s.cables routes c held.wire) → is_stuck s ≡ false
-led-flows n s routes number same f rises led = by (is_stuck s) refl
+pub led-flows : (s : LinkState) (routes : List Route) (number : ℕ → ℕ) → IsHistory s.cables → RisesOver s.cables number routes
+    → ((c : ℕ) (held : Held) → packet_in s c ≡ Some held → MayGo s.cables routes c held.wire) → is_stuck s ≡ false
+led-flows s routes number history rises led = by (is_stuck s) refl
   where
     by : (t : Bool) → is_stuck s ≡ t → is_stuck s ≡ false
     by false e = e
@@ -117,5 +127,5 @@ led-flows n s routes number same f rises led = by (is_stuck s) refl
         let p = some-packet (packet_in s x.0.0) x.0.1 in
         let step : (c : ℕ) (held : Held) → packet_in s c ≡ Some held → IsFurther s number c = λ c held full.
         let b = still-blocked s c held full (still-advance s c (x.1 c)) in
-        record { next = b.next; other = b.other; full = b.full; above = rises c b.next (led-before n routes c held.wire b.next f (subst (λ h. IsLedBy h routes c held.wire) same (led c held full)) (subst (λ h. course h c held.wire ≡ Enters b.next) same b.wants)) } in
+        record { next = b.next; other = b.other; full = b.full; above = led-above s.cables routes number c held.wire b.next history rises (led c held full) b.wants } in
         absurd (no_climb s number step (top number (length s.channels)) x.0.0 p.0 p.1 (omega arith))

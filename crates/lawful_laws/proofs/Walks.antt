@@ -1,5 +1,5 @@
 -- Walks of a set: each is that of a route of the set from its host, whether a table, a part or a way back holds it.
-use Rattle.std.proofs.Common.{◌≡◌, ◌<◌, ◌⊎◌, ℕ, zero, suc, Bool, true, false, ◌&&◌, nat_eq, nat_lt, length, ℤ, List, [], ◌∷◌, map, Option, Some, None, IfSome, refl, sym, ap, subst, ◌∙◌, arith, if◌then◌else◌}
+use Rattle.std.proofs.Common.{◌≡◌, ◌<◌, ◌⊎◌, ℕ, zero, suc, Bool, true, false, ◌&&◌, nat_eq, nat_lt, length, ℤ, List, [], ◌∷◌, ◌++◌, map, Option, Some, None, IfSome, refl, sym, ap, subst, ◌∙◌, arith, if◌then◌else◌}
 use Rattle.std.specs.Prelude.{find, option_map}
 use Rattle.std.specs.List.{AllByRecursion, slice_get, filter, list_all}
 use Rattle.std.proofs.lemmas.Bool.Decides.{nat_tests}
@@ -9,8 +9,10 @@ use Rattle.net_defs.specs.Turn.{is_turn}
 use Rattle.net_defs.specs.Route.{host_port}
 use Rattle.packet_defs.specs.declared.kind.Kind.{Kind}
 use Rattle.packet_defs.specs.Packet.{packet_of}
-use Rattle.cable_history.specs.History.{CableHistory, is_in_place}
-use Rattle.cable_history.specs.Crossed.{leaving, channels_by, life_tail}
+use Rattle.cable_history.specs.History.{CableHistory, IsHistory, stood_at, is_left}
+use Rattle.cable_history.specs.Crossed.{leaving, channels_by, channels_at, life_tail, is_new}
+use Rattle.cable_history.proofs.Fewer.{fewer_front}
+use Rattle.cable_history.proofs.Pulled.{left_stood}
 use Rattle.cable_history.proofs.ForLife.{leaving_has_its_end}
 use Rattle.mapping_defs.specs.Mapping.{RouteEntry, RoutePart}
 use Rattle.gm_defs.proofs.Choices.{both, map-some, then-some}
@@ -110,16 +112,23 @@ table-walk o host to walk t is e =
     let m = then-some (λ (a : ActiveTable). option_map (λ (x : RouteEntry). x.walk) (find (λ (x : RouteEntry). nat_eq x.to to) a.entries)) t.active walk e in
     active-walk o host to walk m.0 (subst (λ x. IfSome x (IsActive o host)) m.1.0 is) m.1.1
 
+-- a walk of a set has turns
+pub walk-turns : (routes : List Route) (host : ℕ) (walk : List ℤ) → AllByRecursion RouteFits routes → IsWalkFrom routes host walk → list_all is_turn walk ≡ true
+walk-turns routes host walk fit x = ap (list_all is_turn) (sym x.is) ∙ (all-at RouteFits routes x.place x.route fit x.there).turns
+
 -- a packet that a host puts into its channel is led by the route whose walk it has
-pub led-start : (h : CableHistory) (routes : List Route) (c host : ℕ) (walk : List ℤ) (kind : Kind) (payload : List ℕ) → AllByRecursion RouteFits routes → leaving h (host_port host) ≡ Some c → IsWalkFrom routes host walk → IsLedBy h routes c (packet_of walk kind payload)
-led-start h routes c host walk kind payload fit e x =
-    let turns : list_all is_turn walk ≡ true = ap (list_all is_turn) (sym x.is) ∙ (all-at RouteFits routes x.place x.route fit x.there).turns in
+pub led-start : (h : CableHistory) (routes : List Route) (c host : ℕ) (walk : List ℤ) (kind : Kind) (payload : List ℕ) → IsHistory h → AllByRecursion RouteFits routes → leaving h (host_port host) ≡ Some c → is_new h c ≡ false → IsWalkFrom routes host walk → IsLedBy h routes c (packet_of walk kind payload)
+led-start h routes c host walk kind payload is fit e old x =
+    let turns = walk-turns routes host walk fit x in
     let front = front-built walk kind payload turns in
     let tail : life_tail h c ≡ Some (host_port host) = (leaving_has_its_end h (host_port host) c e).tail in
+    let before = fewer_front h h (is_left h) (stood_at h.accepted) (Some (host_port host)) walk (is.fabrics h.accepted) (left_stood h) in
     record {
+      accepted = old;
       place = x.place;
       route = x.route;
       behind = [];
+      beyond = before.rest;
       there = x.there;
-      ends_it = (λ i. channels_by h is_in_place (Some (host_port (x.from i))) (x.is i)) ∙ (λ i. channels_by h is_in_place (sym tail i) (sym front i));
+      within = (λ i. channels_at h h.accepted (x.from i) (x.is i)) ∙ before.whole ∙ (λ i. channels_by h (is_left h) (sym tail i) (sym front i) ++ before.rest);
     }

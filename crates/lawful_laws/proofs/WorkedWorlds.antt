@@ -1,5 +1,5 @@
 -- The worked examples.
-use Rattle.std.proofs.Common.{◌≡◌, ℕ, zero, suc, [], Some, refl, subst, arith, rules}
+use Rattle.std.proofs.Common.{◌≡◌, ℕ, zero, suc, [], inl, Some, refl, subst, arith, rules}
 use Rattle.std.proofs.lemmas.Option.{same_Some}
 use Rattle.net_defs.specs.Network.{IsFabric}
 use Rattle.net_defs.specs.Examples.{two_hosts, self_cabled}
@@ -28,7 +28,7 @@ frame-ahead = refl
 
 frame-at : (c : ℕ) (held : Held) → packet_in frame_world.links c ≡ Some held → IsLawful frame_world c held
 unfolding to_send packet_for after_sending begun sent_by planned_strikes sent_out injected
-frame-at zero held e = subst (IsLawful frame_world 0) (same_Some _ held e) (record { unmarked = refl; place = 0; route = _; behind = []; there = refl; ends_it = refl })
+frame-at zero held e = subst (IsLawful frame_world 0) (same_Some _ held e) (record { unmarked = refl; accepted = refl; place = 0; route = _; behind = []; beyond = []; there = refl; within = refl; stopped = inl refl })
 frame-at (suc zero) held e = cc
 frame-at (suc (suc zero)) held e = cc
 frame-at (suc (suc (suc zero))) held e = cc

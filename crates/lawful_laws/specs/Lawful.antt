@@ -12,7 +12,7 @@ use Rattle.lawful_laws.specs.Probes.{IsProbe, IsReadAsProbe, IsWalkAct}
 use Rattle.lawful_laws.specs.Former.{IsExcused}
 
 -- each packet in a channel that no flip has met is lawful, but for probes and replies, packets built before the current
--- epoch, and parts and acknowledgements of parts of an epoch before it
+-- epoch, and parts and acknowledgements of parts of an epoch before it, or of one in which a cable was plugged
 abbrev pub UnflippedIsLawful : Type 0
 UnflippedIsLawful =
     (n : Network) (w : WorldState) (c : ℕ) (held : Held) → IsReached n w → packet_in w.links c ≡ Some held

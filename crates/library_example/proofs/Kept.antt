@@ -1,5 +1,5 @@
 -- That a map which says complete is one to compute routes of, and that its routes may be installed.
-use Rattle.std.proofs.Common.{◌≡◌, ◌<◌, ◌∙◌, ℕ, ℤ, true, true≢false, List, length, Option, None, Result, Ok, Err, refl, sym, ap, subst, arith}
+use Rattle.std.proofs.Common.{◌≡◌, ◌<◌, ◌∙◌, ℕ, ℤ, true, true≢false, List, [], ◌∷◌, length, Option, None, Result, Ok, Err, refl, sym, ap, subst, arith}
 use Rattle.std.specs.Prelude.{is_ok, OnOk}
 use Rattle.std.proofs.lemmas.Bool.Decides.{nat_tests}
 use Rattle.net_defs.specs.declared.place.Answer.{Answer}
@@ -25,10 +25,18 @@ use Rattle.route_making.specs.Listed.{map_hosts_below}
 use Rattle.map_canon.specs.Printing.{AreOfFabric}
 use Rattle.map_making.specs.declared.making.MadeMap.{MadeMap}
 use Rattle.map_making.specs.Made.{IsMade}
+use Rattle.mapper.specs.Asks.{AreAsked}
+use Rattle.journal_defs.specs.declared.entry.Entry.{Entry}
+use Rattle.world_asking.specs.Prober.{WorldAsking, IsAsked}
 use Rattle.run_session.specs.Kept.{IsKeptMap, AreKeptRoutes}
 use Rattle.act_defs.specs.Acts.{IsReached}
 use Rattle.run_session.proofs.Installable.{kept-adoptable, kept-installable, mapper-there}
 use Rattle.run_session.proofs.Installs.{accepted-idle, adopted-are_last}
+
+-- asks keep the number of changes before the first
+pub asked-made : (s t : WorldAsking) (j : List Entry) → AreAsked WorldAsking IsAsked s j t → t.made ≡ s.made
+asked-made s t [] same = sym (ap (λ (u : WorldAsking). u.made) same)
+asked-made s t (e ∷ rest) (between, is, more) = asked-made between t rest more ∙ ap (λ (u : WorldAsking). u.made) is.led
 
 -- an address below the number of hosts is a host's
 has-host : (n : Network) (host : ℕ) → host < length n.hosts → has_vertex n (Host host) ≡ true
@@ -57,12 +65,12 @@ new-idle w n new = ap (λ v. is_idle v.links) new ∙ empty-idle n
 abbrev hosts_in : WorldState → NetMap → List ℕ
 hosts_in w m = map_hosts_below (host_count w) m
 
--- routes with their mapper and the hosts of its map, as they are installed
-abbrev last : ℕ → List ℕ → List Route → LastRoutes
-last mapper hosts routes = record { mapper = mapper; hosts = hosts; routes = routes }
+-- routes with their mapper and the hosts of its map, as they are installed in a world
+abbrev last : WorldState → ℕ → NetMap → List Route → LastRoutes
+last w mapper m routes = record { mapper = mapper; hosts = hosts_in w m; routes = routes; began = w.links.cables.changes }
 
 -- the least legal routes of such a map
-kept-routes : (w : WorldState) (mapper : ℕ) (m : NetMap) (routes : List Route) → IsMoment w → IsKeptMap (fabric_of w) mapper m → AreRoutesOf m (order_of m) routes → AreKeptRoutes (fabric_of w) (last mapper (hosts_in w m) routes)
+kept-routes : (w : WorldState) (mapper : ℕ) (m : NetMap) (routes : List Route) → IsMoment w → IsKeptMap (fabric_of w) mapper m → AreRoutesOf m (order_of m) routes → AreKeptRoutes (fabric_of w) (last w mapper m routes)
 kept-routes w mapper m routes now kept are = record {
   made = m;
   kept = kept;
@@ -72,19 +80,19 @@ kept-routes w mapper m routes now kept are = record {
 
 -- they may be adopted by the mapper, which is there
 pub adoptable : (w : WorldState) (mapper : ℕ) (m : NetMap) (routes : List Route) → IsMoment w → IsKeptMap (fabric_of w) mapper m → AreRoutesOf m (order_of m) routes → IsAdoptable (fabric_of w) mapper routes
-adoptable w mapper m routes now kept are = kept-adoptable (fabric_of w) (last mapper (hosts_in w m) routes) now.fabric (kept-routes w mapper m routes now kept are)
+adoptable w mapper m routes now kept are = kept-adoptable (fabric_of w) (last w mapper m routes) now.fabric (kept-routes w mapper m routes now kept are)
 
 pub adopter-there : (w : WorldState) (mapper : ℕ) (m : NetMap) (routes : List Route) → IsMoment w → IsKeptMap (fabric_of w) mapper m → AreRoutesOf m (order_of m) routes → IsHostOf w mapper
-adopter-there w mapper m routes now kept are = mapper-there w (last mapper (hosts_in w m) routes) now (kept-routes w mapper m routes now kept are)
+adopter-there w mapper m routes now kept are = mapper-there w (last w mapper m routes) now (kept-routes w mapper m routes now kept are)
 
 -- and once they are, they can be installed on the hosts of the map
-pub installable : (w v : WorldState) (mapper : ℕ) (m : NetMap) (routes : List Route) → IsMoment w → IsReached (fabric_of w) w → may_adopt w routes ≡ true → IsKeptMap (fabric_of w) mapper m → AreRoutesOf m (order_of m) routes → is_idle w.links ≡ true → v ≡ adopted_by w mapper routes
+pub installable : (n : Network) (w v : WorldState) (mapper : ℕ) (m : NetMap) (routes : List Route) → IsMoment w → IsReached n w → may_adopt w routes ≡ true → IsKeptMap (fabric_of w) mapper m → AreRoutesOf m (order_of m) routes → is_idle w.links ≡ true → v ≡ adopted_by w mapper routes
     → fabric_of v ≡ fabric_of w → host_count v ≡ host_count w → CanInstall v (hosts_in v m) 1
-installable w v mapper m routes now reached may kept are idle same fabric hosts =
-    let l : LastRoutes = last mapper (hosts_in w m) routes in
-    let adopted = adopted-are_last w v l reached may same in
+installable n w v mapper m routes now reached may kept are idle same fabric hosts =
+    let l : LastRoutes = last w mapper m routes in
+    let adopted = adopted-are_last n w v l reached may same in
     kept-installable v l (hosts_in v m) 1 v.adopted refl adopted.0 adopted.1 (ap (λ x. is_idle x.links) same ∙ accepted-idle w.links (keeps_epoch w routes) ∙ idle)
-    (subst (λ n. AreKeptRoutes n l) (sym fabric) (kept-routes w mapper m routes now kept are)) (omega arith) (omega arith) (ap (λ k. map_hosts_below k m) hosts)
+    (subst (λ k. AreKeptRoutes k l) (sym fabric) (kept-routes w mapper m routes now kept are)) (omega arith) (omega arith) (ap (λ k. map_hosts_below k m) hosts)
 
 -- what holds of a result that is no error holds where the error became another
 pub accepted : {T E D : Type 0} → (r : Result T E) (q : Result T D) (x : T) (P : Type 0) → is_ok q ≡ is_ok r → q ≡ Ok x → OnOk r P → P

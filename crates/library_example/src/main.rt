@@ -9,6 +9,7 @@
 #![tactic(auto)]
 
 ghost use Rattle.std.specs.Prelude.{◌≡◌, length, true, IfOk, OnOk};
+ghost use Rattle.cable_history.specs.History.{fabric_at};
 ghost use Rattle.link_defs.specs.Links.{is_idle};
 ghost use Rattle.world_defs.specs.World.{fabric_of, host_count};
 ghost use Rattle.fab_world.specs.Events.{IsGiven};
@@ -30,21 +31,28 @@ use world_drain::settle;
 
 fn main(rt: HostRuntime) -> Result<()> {
     let world = World::new(rt.alloc(), two_hosts(rt.alloc())?)?;
+    let began = world.changes();
     let mut prober = WorldProber::new(rt.alloc(), world, 0, 1);
     let map = complete_map(&rt, &mut prober);
     let mut world = prober.into_world();
-    let done = talk(&rt, &mut world, map);
+    let done = talk(&rt, &mut world, began, map);
     world.end();
     done
 }
 
-// Goes on by a map of host 0, unless there is none.
-fn talk(rt: &HostRuntime, w: &mut World, map: Result<FabricMap>) -> Result<()>
-    requires kept { IfOk map (IsKeptMap (fabric_of w.old) 0) }
+// Goes on by a map of host 0, unless there is none, or it isn't of the fabric as it stands: a cable was pulled or
+// plugged since it began, after so many changes of cables.
+fn talk(rt: &HostRuntime, w: &mut World, began: u64, map: Result<FabricMap>) -> Result<()>
+    requires kept { IfOk map (IsKeptMap (fabric_at w.old.links.cables began) 0) }
     requires idle { OnOk map (is_idle w.old.links ≡ true) }
     requires two { length (fabric_of w.old).hosts ≡ 2 }
 {
-    install_routes(rt, w, &map?)?;
+    w.moment();
+    let map = map?;
+    if w.changes() != began {
+        bail!("a cable was pulled or plugged since the map began");
+    }
+    install_routes(rt, w, &map)?;
     message(rt, w)
 }
 
@@ -65,9 +73,10 @@ fn two_hosts(alloc: Global) -> Result<Fabric, GraphFault>
 fn complete_map(rt: &HostRuntime, prober: &mut WorldProber) -> Result<FabricMap>
     requires idle { is_idle prober.old.world.links ≡ true }
     requires fresh { prober.old.drowned ≡ 0 }
-    ensures kept { IfOk result (IsKeptMap (fabric_of prober.old.world) prober.old.host) }
+    ensures kept { IfOk result
+        (IsKeptMap (fabric_at prober.new.world.links.cables prober.old.made) prober.old.host) }
     ensures idle { OnOk result (is_idle prober.new.world.links ≡ true) }
-    ensures fabric { fabric_of prober.new.world ≡ fabric_of prober.old.world }
+    ensures hosts { length (fabric_of prober.new.world).hosts ≡ length (fabric_of prober.old.world).hosts }
 {
     let made = make_map(rt.alloc(), prober, 4)?;
     let MapWords::Complete = made.words else {
@@ -82,7 +91,7 @@ fn complete_map(rt: &HostRuntime, prober: &mut WorldProber) -> Result<FabricMap>
 fn install_routes(rt: &HostRuntime, w: &mut World, map: &FabricMap) -> Result<()>
     requires kept { IsKeptMap (fabric_of w.old) 0 map.now }
     requires idle { is_idle w.old.links ≡ true }
-    ensures fabric { fabric_of w.new ≡ fabric_of w.old }
+    ensures hosts { host_count w.new ≡ host_count w.old }
 {
     w.moment();
     w.reached();
@@ -114,9 +123,8 @@ fn happen(rt: &HostRuntime, name: &str, event: Event, w: &mut World) -> Result<(
 // Sends five bytes from port 2 of host 0 to port 5 of host 1, in single steps as far as the message is received. A
 // settle then brings its acknowledgement, and each port is polled.
 fn message(rt: &HostRuntime, w: &mut World) -> Result<()>
-    requires two { length (fabric_of w.old).hosts ≡ 2 }
+    requires two { host_count w.old ≡ 2 }
 {
-    w.moment();
     step!(rt, w => Begin { host: 0, port: 2, sends: 1, recvs: 0 });
     step!(rt, w => Begin { host: 1, port: 5, sends: 0, recvs: 1 });
     step!(rt, w => Provide { host: 1, port: 5, size: 4, prio: 0 });

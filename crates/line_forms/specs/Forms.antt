@@ -184,8 +184,8 @@ table_said n ws =
 -- why nothing is installed
 abbrev pub is_install_cause : List ℕ → Bool
 is_install_cause w =
-    bytes_eq w (codes "noroutes") || bytes_eq w (codes "busy") || bytes_eq w (codes "installed")
-    || bytes_eq w (codes "epochs")
+    bytes_eq w (codes "noroutes") || bytes_eq w (codes "busy") || bytes_eq w (codes "changed")
+    || bytes_eq w (codes "installed") || bytes_eq w (codes "epochs")
 
 -- `refused CAUSE`
 abbrev pub is_install_refused : List (List ℕ) → Bool

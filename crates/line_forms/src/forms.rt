@@ -89,6 +89,7 @@ fn is_install_cause(w: &[u8]) -> bool
 {
     w == b"noroutes".as_slice()
         || w == b"busy".as_slice()
+        || w == b"changed".as_slice()
         || w == b"installed".as_slice()
         || w == b"epochs".as_slice()
 }

@@ -1,6 +1,8 @@
 pub mod HopsLeft
 pub mod Idling
 pub mod InOrder
+pub mod KindsKept
+pub mod Later
 pub mod LonePackets
 pub mod Marks
 pub mod Shapes

@@ -202,7 +202,7 @@ rise-filtered test (e ∷ es) rise = by (test e) (rise-filtered test es rise.1)
     by false rest = rest
 
 -- as many channels as before
-pulled-channels : (h : CableHistory) (k : ℕ) → life_channels (with_pulled h k) ≡ life_channels h
+pub pulled-channels : (h : CableHistory) (k : ℕ) → life_channels (with_pulled h k) ≡ life_channels h
 pulled-channels h k = by (slice_get h.wires k)
   where
     by : (o : Option Wire) → life_channels (pulled_by h k o) ≡ life_channels h

@@ -1,5 +1,5 @@
 -- Part of the way along an ask: the give-ups, the tries of its host probes and of its loopback probes, and within one try.
-use Rattle.std.proofs.Common.{◌≡◌, ℕ, true, false, List, map, Option, Some, None, is_some, refl, ◌∙◌, ap, subst}
+use Rattle.std.proofs.Common.{◌≡◌, ℕ, true, false, List, [], map, Option, Some, None, is_some, refl, ◌∙◌, ap, subst}
 use Rattle.std.specs.Prelude.{ℤ}
 use Rattle.world_defs.specs.declared.event.Event.TheVariants.{Ask, Inject, GiveUp}
 use Rattle.world_defs.specs.World.{WorldState, addresses}
@@ -56,33 +56,34 @@ loop_try-probe mapper walk w u v is p =
     way-step w staged v (Ask mapper walk true) _ refl (way-front staged v (log.sends mapper staged).events _ (subst (λ x. IsPartWay x (log.sends mapper x).events v) is p))
 
 -- along the give-ups of an ask
-pub ask-given_up : (mapper tries : ℕ) (walk : List ℤ) (w v : WorldState) → IsPartWay w (map GiveUp (addresses w)) v → IsPartWay w (log.ask mapper tries walk w).events v
+pub ask-given_up : (made mapper tries : ℕ) (walk : List ℤ) (w v : WorldState) → IsPartWay w (map GiveUp (addresses w)) v → IsPartWay w (log.ask made mapper tries walk w).events v
 unfolding log.ask
-ask-given_up mapper tries walk w v p = way-front w v (map GiveUp (addresses w)) _ p
+ask-given_up made mapper tries walk w v p = way-front w v (map GiveUp (addresses w)) _ p
 
 -- the tries of a host probe, and what follows them
 abbrev hosts : ℕ → List ℤ → ℕ → WorldState → Log (log.Tried (Option ℕ))
 hosts mapper walk k = log.tries is_some None (log.host_try mapper walk) k
 
-abbrev asked : ℕ → List ℤ → ℕ → WorldState → Log log.Asked
-asked mapper walk k w = let t : Log (log.Tried (Option ℕ)) = hosts mapper walk k w in log.asked_on mapper walk k t.value.harmed t.value.found t.world
+abbrev asked : ℕ → ℕ → List ℤ → ℕ → WorldState → Log log.Asked
+asked made mapper walk k w = let t : Log (log.Tried (Option ℕ)) = hosts mapper walk k w in log.asked_on made mapper walk k t.value.harmed t.value.found t.world
 
 -- along the tries of its host probe
-pub ask-hosts : (mapper tries : ℕ) (walk : List ℤ) (w u v : WorldState) → u ≡ all_given_up w → IsPartWay u (hosts mapper walk tries u).events v → IsPartWay w (log.ask mapper tries walk w).events v
+pub ask-hosts : (made mapper tries : ℕ) (walk : List ℤ) (w u v : WorldState) → u ≡ all_given_up w → IsPartWay u (hosts mapper walk tries u).events v → IsPartWay w (log.ask made mapper tries walk w).events v
 unfolding log.ask
-ask-hosts mapper tries walk w u v is p =
+ask-hosts made mapper tries walk w u v is p =
     let start : WorldState = all_given_up w in
     way-behind w start v (map GiveUp (addresses w)) _ refl
-    (way-front start v (hosts mapper walk tries start).events (asked mapper walk tries start).events (subst (λ x. IsPartWay x (hosts mapper walk tries x).events v) is p))
+    (way-front start v (hosts mapper walk tries start).events (asked made mapper walk tries start).events (subst (λ x. IsPartWay x (hosts mapper walk tries x).events v) is p))
 
 -- along the tries of its loopback probe
-pub ask-loops : (mapper tries : ℕ) (walk : List ℤ) (w u x v : WorldState) → u ≡ all_given_up w → None ≡ (hosts mapper walk tries u).value.found → x ≡ (hosts mapper walk tries u).world
-    → IsPartWay x (log.tries (λ b. b) false (log.loop_try mapper walk) tries x).events v → IsPartWay w (log.ask mapper tries walk w).events v
+pub ask-loops : (made mapper tries : ℕ) (walk : List ℤ) (w u x v : WorldState) → u ≡ all_given_up w → None ≡ (hosts mapper walk tries u).value.found → x ≡ (hosts mapper walk tries u).world
+    → IsPartWay x (log.tries (λ b. b) false (log.loop_try mapper walk) tries x).events v → IsPartWay w (log.ask made mapper tries walk w).events v
 unfolding log.ask
-ask-loops mapper tries walk w u x v is none led p =
+ask-loops made mapper tries walk w u x v is none led p =
     let start : WorldState = all_given_up w in
     let t : Log (log.Tried (Option ℕ)) = hosts mapper walk tries start in
     way-behind w start v (map GiveUp (addresses w)) _ refl
-    (way-behind start t.world v t.events (asked mapper walk tries start).events (tries-row IsByteEvent is_some None (log.host_try mapper walk) (host_try-row byte_asks (λ h wk l. tt) mapper walk) tries start).there
-    (subst (λ o. IsPartWay t.world (log.asked_on mapper walk tries t.value.harmed o t.world).events v) (none ∙ ap (λ y. (hosts mapper walk tries y).value.found) is)
-    (subst (λ y. IsPartWay y (log.tries (λ b. b) false (log.loop_try mapper walk) tries y).events v) (led ∙ ap (λ y. (hosts mapper walk tries y).world) is) p)))
+    (way-behind start t.world v t.events (asked made mapper walk tries start).events (tries-row IsByteEvent is_some None (log.host_try mapper walk) (host_try-row byte_asks (λ h wk l. tt) mapper walk) tries start).there
+    (subst (λ o. IsPartWay t.world (log.asked_on made mapper walk tries t.value.harmed o t.world).events v) (none ∙ ap (λ y. (hosts mapper walk tries y).value.found) is)
+    (way-front t.world v (log.tries (λ b. b) false (log.loop_try mapper walk) tries t.world).events []
+    (subst (λ y. IsPartWay y (log.tries (λ b. b) false (log.loop_try mapper walk) tries y).events v) (led ∙ ap (λ y. (hosts mapper walk tries y).world) is) p))))

@@ -13,7 +13,7 @@ abbrev pub across : List ℤ
 across = pos 3 ∷ []
 
 abbrev pub asked_across : Log Asked
-asked_across = ask 0 1 across (new_world two_hosts)
+asked_across = ask 0 0 1 across (new_world two_hosts)
 
 -- it finds host 1
 abbrev pub AskFindsHost : Type 0

@@ -25,11 +25,12 @@ SettleLeads = (w : WorldState) → Leads w (log.settle w)
 
 -- those of one ask do
 abbrev pub AskLeads : Type 0
-AskLeads = (mapper k : ℕ) (walk : List ℤ) (w : WorldState) → Leads w (log.ask mapper k walk w)
+AskLeads = (made mapper k : ℕ) (walk : List ℤ) (w : WorldState) → Leads w (log.ask made mapper k walk w)
 
 -- those of asks in a row do
 abbrev pub AsksLead : Type 0
-AsksLead = (mapper k : ℕ) (walks : List (List ℤ)) (w : WorldState) → Leads w (log.asks mapper k walks w)
+AsksLead =
+    (made mapper k : ℕ) (walks : List (List ℤ)) (w : WorldState) → Leads w (log.asks made mapper k walks w)
 
 -- and so do those of an installation
 abbrev pub InstallLeads : Type 0

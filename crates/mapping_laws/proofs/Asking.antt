@@ -11,6 +11,9 @@ use Rattle.net_defs.specs.Turn.{is_turn, IsTurn}
 use Rattle.journal_defs.specs.declared.entry.Entry.{Entry}
 use Rattle.growth_laws.specs.Laws.{IsTold, TellsTruth}
 use Rattle.growth_laws.proofs.Existence.{told_journal_exists}
+use Rattle.cable_history.specs.History.{fabric_at}
+use Rattle.cable_history.proofs.Later.{pulled-later, later-past}
+use Rattle.cable_history.proofs.Now.{last_is_now, now_is_fabric}
 use Rattle.world_defs.specs.World.{WorldState, fabric_of}
 use Rattle.world_defs.specs.Log.{Log}
 use Rattle.world_defs.specs.Logs as log
@@ -55,29 +58,35 @@ abbrev walks_of : List Entry → List (List ℤ)
 walks_of j = map (λ (e : Entry). e.walk) j
 
 -- what is answered to a walk after a journal: the answer of an ask in the world after the asks of that journal
-abbrev tell : ℕ → ℕ → WorldState → List Entry → List ℤ → Answer
-tell host tries w j x = if list_all fits (walks_of j) && fits x then (log.ask host tries x (log.asks host tries (walks_of j) w).world).value.answer else Nothing
+abbrev tell : ℕ → ℕ → ℕ → WorldState → List Entry → List ℤ → Answer
+tell made host tries w j x = if list_all fits (walks_of j) && fits x then (log.ask made host tries x (log.asks made host tries (walks_of j) w).world).value.answer else Nothing
 
-tells-truth : (host depth tries : ℕ) (w : WorldState) → CanMap host depth w → TellsTruth (fabric_of w) host (tell host tries w)
+tells-truth : (host depth tries : ℕ) (w : WorldState) → CanMap host depth w → TellsTruth (fabric_of w) host (tell w.links.cables.changes host tries w)
 tells-truth host depth tries w can j x = by (list_all fits (walks_of j) && fits x) refl
   where
+    made : ℕ
+    made = w.links.cables.changes
+
     v : WorldState
-    v = (log.asks host tries (walks_of j) w).world
+    v = (log.asks made host tries (walks_of j) w).world
 
     a : Answer
-    a = (log.ask host tries x v).value.answer
+    a = (log.ask made host tries x v).value.answer
 
-    there : AreAsked host tries w (walks_of j) (log.asks host tries (walks_of j) w) → IsCarried x → a ≢ Nothing → a ≡ answer (fabric_of w) host x
-    there so is some = of (ask-true v host tries x (ask-by v host x so.can is))
+    there : AreAsked made host tries w (walks_of j) (log.asks made host tries (walks_of j) w) → IsCarried x → a ≢ Nothing → a ≡ answer (fabric_of w) host x
+    there so is some = of (ask-true made v host tries x (ask-by made v host x so.can is))
       where
-        of : (a ≡ answer (fabric_of v) host x) ⊎ ((a ≡ Nothing) × ((log.ask host tries x v).value.drowned ≡ true)) → a ≡ answer (fabric_of w) host x
-        of (inl e) = e ∙ ap (λ n. answer n host x) so.kept.fabric
+        past : fabric_at v.links.cables made ≡ fabric_of w
+        past = later-past made (omega arith) (pulled-later so.kept.pulled) ∙ last_is_now w.links.cables made can.history (omega arith)
+
+        of : (a ≡ answer (fabric_at v.links.cables made) host x) ⊎ ((a ≡ Nothing) × ((log.ask made host tries x v).value.drowned ≡ true)) → a ≡ answer (fabric_of w) host x
+        of (inl e) = e ∙ ap (λ n. answer n host x) past
         of (inr p) = absurd (some p.0)
 
     by : (b : Bool) → list_all fits (walks_of j) && fits x ≡ b → (if b then a else Nothing) ≢ Nothing → (if b then a else Nothing) ≡ answer (fabric_of w) host x
     by true p some =
         let parts = and_parts (list_all fits (walks_of j)) (fits x) p in
-        there (asks-so host tries (walks_of j) w (start host depth w can) (all-carried (walks_of j) parts.0)) (fits-carried x parts.1) some
+        there (asks-so made host tries (walks_of j) w (start host depth w can) (all-carried (walks_of j) parts.0)) (fits-carried x parts.1) some
     by false p some = absurd (some refl)
 
 -- the walks up to an entry are carried
@@ -86,36 +95,37 @@ all-fit [] e ys all = carried-fits e.walk all.0
 all-fit (x ∷ xs) e ys all = ap (λ b. (b && list_all fits (walks_of xs)) && fits e.walk) (carried-fits x.walk all.0) ∙ all-fit xs e ys all.1
 
 -- one ask more
-asked-last : (host tries : ℕ) (xs : List Entry) (e : Entry) (w : WorldState) → (log.asks host tries (walks_of (xs ++ e ∷ [])) w).world ≡ (log.ask host tries e.walk (log.asks host tries (walks_of xs) w).world).world
-asked-last host tries [] e w = refl
-asked-last host tries (x ∷ xs) e w = asked-last host tries xs e (log.ask host tries x.walk w).world
+asked-last : (made host tries : ℕ) (xs : List Entry) (e : Entry) (w : WorldState) → (log.asks made host tries (walks_of (xs ++ e ∷ [])) w).world ≡ (log.ask made host tries e.walk (log.asks made host tries (walks_of xs) w).world).world
+asked-last made host tries [] e w = refl
+asked-last made host tries (x ∷ xs) e w = asked-last made host tries xs e (log.ask made host tries x.walk w).world
 
 append-assoc : (xs : List Entry) (e : Entry) (ys : List Entry) → (xs ++ e ∷ []) ++ ys ≡ xs ++ e ∷ ys
 append-assoc [] e ys = refl
 append-assoc (x ∷ xs) e ys = ap (λ l. x ∷ l) (append-assoc xs e ys)
 
 -- asks of a journal that is answered so have its entries
-entries-are : (host tries : ℕ) (w : WorldState) (before rest : List Entry)
-    → ((xs : List Entry) (e : Entry) (ys : List Entry) → before ++ rest ≡ xs ++ e ∷ ys → e.answer ≡ (log.ask host tries e.walk (log.asks host tries (walks_of xs) w).world).value.answer)
-    → (log.asks host tries (walks_of rest) (log.asks host tries (walks_of before) w).world).value.entries ≡ rest
-entries-are host tries w before [] told = refl
-entries-are host tries w before (e ∷ rest) told =
-    let v : WorldState = (log.asks host tries (walks_of before) w).world in
-    let l : Log log.Asked = log.ask host tries e.walk v in
+entries-are : (made host tries : ℕ) (w : WorldState) (before rest : List Entry)
+    → ((xs : List Entry) (e : Entry) (ys : List Entry) → before ++ rest ≡ xs ++ e ∷ ys → e.answer ≡ (log.ask made host tries e.walk (log.asks made host tries (walks_of xs) w).world).value.answer)
+    → (log.asks made host tries (walks_of rest) (log.asks made host tries (walks_of before) w).world).value.entries ≡ rest
+entries-are made host tries w before [] told = refl
+entries-are made host tries w before (e ∷ rest) told =
+    let v : WorldState = (log.asks made host tries (walks_of before) w).world in
+    let l : Log log.Asked = log.ask made host tries e.walk v in
     let here : e.answer ≡ l.value.answer = told before e rest refl in
-    let next : (log.asks host tries (walks_of (before ++ e ∷ [])) w).world ≡ l.world = asked-last host tries before e w in
-    let later = entries-are host tries w (before ++ e ∷ []) rest (λ xs d ys p. told xs d ys (sym (append-assoc before e rest) ∙ p)) in
-    let behind : (log.asks host tries (walks_of rest) l.world).value.entries ≡ rest = subst (λ u. (log.asks host tries (walks_of rest) u).value.entries ≡ rest) next later in
+    let next : (log.asks made host tries (walks_of (before ++ e ∷ [])) w).world ≡ l.world = asked-last made host tries before e w in
+    let later = entries-are made host tries w (before ++ e ∷ []) rest (λ xs d ys p. told xs d ys (sym (append-assoc before e rest) ∙ p)) in
+    let behind : (log.asks made host tries (walks_of rest) l.world).value.entries ≡ rest = subst (λ u. (log.asks made host tries (walks_of rest) u).value.entries ≡ rest) next later in
     let one : (let d : Entry = record { walk = e.walk; answer = l.value.answer } in d) ≡ e = ap (λ x. (let d : Entry = record { walk = e.walk; answer = x } in d)) (sym here) in
-    ap (λ d. d ∷ (log.asks host tries (walks_of rest) l.world).value.entries) one ∙ ap (λ es. e ∷ es) behind
+    ap (λ d. d ∷ (log.asks made host tries (walks_of rest) l.world).value.entries) one ∙ ap (λ es. e ∷ es) behind
 
 pub asked_journal_exists : AskedJournalExists
 asked_journal_exists host depth tries w can =
-    let h = told_journal_exists (fabric_of w) host depth (tell host tries w) can.fabric (tells-truth host depth tries w can) in
+    let made : ℕ = w.links.cables.changes in
+    let h = told_journal_exists (fabric_of w) host depth (tell made host tries w) (now_is_fabric w.links.cables can.history) (tells-truth host depth tries w can) in
     let j : List Entry = h.0 in
     let all : AllByRecursion IsCarried (walks_of j) = carried host depth j can.shallow h.3.growing in
-    let came : Log log.AskedAll = log.asks host tries (walks_of j) w in
-    let same : came.value.entries ≡ j = entries-are host tries w [] j (λ xs e ys p. answered j xs e ys h.1 p (subst (λ l. AllByRecursion IsCarried (walks_of l)) p all)) in
+    let came : Log log.AskedAll = log.asks made host tries (walks_of j) w in
+    let same : came.value.entries ≡ j = entries-are made host tries w [] j (λ xs e ys p. answered made j xs e ys h.1 p (subst (λ l. AllByRecursion IsCarried (walks_of l)) p all)) in
     record {
       journal = j;
       drowned = came.value.drowned;
@@ -126,6 +136,6 @@ asked_journal_exists host depth tries w can =
       found = h.2;
     }
   where
-    answered : (j xs : List Entry) (e : Entry) (ys : List Entry) → IsTold (tell host tries w) j → j ≡ xs ++ e ∷ ys → AllByRecursion IsCarried (walks_of (xs ++ e ∷ ys)) → e.answer ≡ (log.ask host tries e.walk (log.asks host tries (walks_of xs) w).world).value.answer
-    answered j xs e ys told p all =
-        told.told xs e ys p ∙ ap (λ b. if b then (log.ask host tries e.walk (log.asks host tries (walks_of xs) w).world).value.answer else Nothing) (all-fit xs e ys all)
+    answered : (made : ℕ) (j xs : List Entry) (e : Entry) (ys : List Entry) → IsTold (tell made host tries w) j → j ≡ xs ++ e ∷ ys → AllByRecursion IsCarried (walks_of (xs ++ e ∷ ys)) → e.answer ≡ (log.ask made host tries e.walk (log.asks made host tries (walks_of xs) w).world).value.answer
+    answered made j xs e ys told p all =
+        told.told xs e ys p ∙ ap (λ b. if b then (log.ask made host tries e.walk (log.asks made host tries (walks_of xs) w).world).value.answer else Nothing) (all-fit xs e ys all)

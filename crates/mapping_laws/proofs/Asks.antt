@@ -9,10 +9,12 @@ use Rattle.net_defs.specs.Network.{Network}
 use Rattle.net_defs.specs.Route.{answer}
 use Rattle.net_defs.specs.Turn.{IsTurn}
 use Rattle.journal_defs.specs.Truth.{IsTrueJournal, IsTrueWhereFound}
-use Rattle.world_defs.specs.World.{WorldState, fabric_of, last_count}
+use Rattle.cable_history.specs.History.{fabric_at}
+use Rattle.cable_history.proofs.Later.{pulled-later, later-kept, later-past}
+use Rattle.world_defs.specs.World.{WorldState, last_count}
 use Rattle.ask_laws.specs.Premises.{CanAsk}
 use Rattle.ask_laws.specs.Kept.{IsAskKept}
-use Rattle.ask_laws.proofs.Answering.{ask-keeps, ask-again, ask-true, ask-heard, ask-harmed}
+use Rattle.ask_laws.proofs.Answering.{ask-keeps, ask-again, ask-true, ask-unplanned, ask-heard, ask-harmed}
 use Rattle.ask_laws.proofs.Few.{ask-few}
 use Rattle.ask_laws.proofs.Ready.{kept-same, kept-both}
 use Rattle.world_defs.specs.Log.{Log}
@@ -29,9 +31,9 @@ pub record IsCarried (walk : List ℤ) : Type 0 where
   pub few : length walk ≤ 64
 
 -- a host that can ask by the empty walk can ask by each of these
-pub ask-by : (w : WorldState) (host : ℕ) (walk : List ℤ) → CanAsk w host [] → IsCarried walk → CanAsk w host walk
-ask-by w host walk can is = record {
-  fabric = can.fabric;
+pub ask-by : (made : ℕ) (w : WorldState) (host : ℕ) (walk : List ℤ) → CanAsk made w host [] → IsCarried walk → CanAsk made w host walk
+ask-by made w host walk can is = record {
+  stood = can.stood;
   world = can.world;
   idle = can.idle;
   is_host = can.is_host;
@@ -46,13 +48,13 @@ pub record IsQuietFor (w v : WorldState) : Type 0 where
   pub left : v.injected < last_count
 
 -- what asks in a row came to
-pub record AreAsked (host tries : ℕ) (w : WorldState) (walks : List (List ℤ)) (l : Log log.AskedAll) : Type 0 where
+pub record AreAsked (made host tries : ℕ) (w : WorldState) (walks : List (List ℤ)) (l : Log log.AskedAll) : Type 0 where
   pub kept : IsAskKept w l.world
-  pub can : CanAsk l.world host []
-  pub found : IsTrueWhereFound (fabric_of w) host l.value.entries
-  pub truth : l.value.drowned ≡ 0 → IsTrueJournal (fabric_of w) host l.value.entries
-  pub heard : 0 < tries → IsQuietFor w l.world → l.value.drowned ≡ 0
-  pub harmed : 0 < tries → l.world.injected < last_count → 0 < l.value.drowned → w.harmed < l.world.harmed
+  pub can : CanAsk made l.world host []
+  pub found : IsTrueWhereFound (fabric_at w.links.cables made) host l.value.entries
+  pub truth : l.value.drowned ≡ 0 → IsTrueJournal (fabric_at w.links.cables made) host l.value.entries
+  pub heard : 0 < tries → w.links.cables.changes ≡ made → IsQuietFor w l.world → l.value.drowned ≡ 0
+  pub harmed : 0 < tries → l.world.injected < last_count → 0 < l.value.drowned → (w.harmed < l.world.harmed) ⊎ (made < l.world.links.cables.changes)
   pub few : tries ≤ 8 → l.world.injected ≤ w.injected + 24 * length walks
 
 answer-there : (n : Network) (host : ℕ) (walk : List ℤ) (x : Answer) (drowned : Bool) → (x ≡ answer n host walk) ⊎ ((x ≡ Nothing) × (drowned ≡ true)) → x ≢ Nothing → x ≡ answer n host walk
@@ -70,72 +72,83 @@ none-both : (drowned : Bool) (k : ℕ) → drowned ≡ false → k ≡ 0 → one
 none-both drowned k a b = let one : one_if drowned ≡ 0 = ap one_if a in omega (arith, one, b)
 
 -- an ask, and those after it
-ask-push : (host tries : ℕ) (walk : List ℤ) (walks : List (List ℤ)) (w : WorldState) → CanAsk w host [] → IsCarried walk → ((u : WorldState) → CanAsk u host [] → AreAsked host tries u walks (log.asks host tries walks u)) → AreAsked host tries w (walk ∷ walks) (log.asks host tries (walk ∷ walks) w)
-ask-push host tries walk walks w can is others = record {
+ask-push : (made host tries : ℕ) (walk : List ℤ) (walks : List (List ℤ)) (w : WorldState) → CanAsk made w host [] → IsCarried walk → ((u : WorldState) → CanAsk made u host [] → AreAsked made host tries u walks (log.asks made host tries walks u)) → AreAsked made host tries w (walk ∷ walks) (log.asks made host tries (walk ∷ walks) w)
+ask-push made host tries walk walks w can is others = record {
   kept = kept-both w a.world rest.world kept r.kept;
   can = r.can;
-  found = (answer-there n host walk a.answer a.drowned answers, subst (λ k. IsTrueWhereFound k host rest.value.entries) kept.fabric r.found);
-  truth = λ none. (answer-true n host walk a.answer a.drowned rest.value.drowned answers none, subst (λ k. IsTrueJournal k host rest.value.entries) kept.fabric (r.truth (rest-none a.drowned rest.value.drowned none)));
-  heard = λ some quiet. none-both a.drowned rest.value.drowned (first some quiet) (r.heard some (later quiet));
+  found = (answer-there n host walk a.answer a.drowned answers, subst (λ k. IsTrueWhereFound k host rest.value.entries) past r.found);
+  truth = λ none. (answer-true n host walk a.answer a.drowned rest.value.drowned answers none, subst (λ k. IsTrueJournal k host rest.value.entries) past (r.truth (rest-none a.drowned rest.value.drowned none)));
+  heard = λ some same quiet. none-both a.drowned rest.value.drowned (first some same quiet) (r.heard some (ap (λ h. h.changes) (calm quiet) ∙ same) (later quiet));
   harmed = λ some left more. by some left a.drowned refl more;
-  few = λ low. (let one = ask-few w host tries walk in let more = r.few low in let same = ap (λ x. x.world.injected) is_log in omega (arith, one, more, low, same));
+  few = λ low. (let one = ask-few w made host tries walk in let more = r.few low in let same = ap (λ x. x.world.injected) is_log in omega (arith, one, more, low, same));
 }
   where
     n : Network
-    n = fabric_of w
+    n = fabric_at w.links.cables made
 
     a : Asked
-    a = asked_to (log.ask host tries walk w)
+    a = asked_to (log.ask made host tries walk w)
 
-    is_log : ask host tries walk w ≡ a
+    is_log : ask made host tries walk w ≡ a
     is_log = refl
 
     rest : Log log.AskedAll
-    rest = log.asks host tries walks a.world
+    rest = log.asks made host tries walks a.world
 
-    here : CanAsk w host walk
-    here = ask-by w host walk can is
+    here : CanAsk made w host walk
+    here = ask-by made w host walk can is
 
     kept : IsAskKept w a.world
-    kept = subst (λ x. IsAskKept w x.world) is_log (ask-keeps w host tries walk here)
+    kept = subst (λ x. IsAskKept w x.world) is_log (ask-keeps made w host tries walk here)
 
-    r : AreAsked host tries a.world walks rest
-    r = others a.world (subst (λ x. CanAsk x.world host []) is_log (ask-again w host tries walk [] here can))
+    -- the fabric as it stood when the mapper was made
+    past : fabric_at a.world.links.cables made ≡ n
+    past = later-past made can.stood.made (pulled-later kept.pulled)
+
+    r : AreAsked made host tries a.world walks rest
+    r = others a.world (subst (λ x. CanAsk made x.world host []) is_log (ask-again made w host tries walk [] here can))
 
     answers : (a.answer ≡ answer n host walk) ⊎ ((a.answer ≡ Nothing) × (a.drowned ≡ true))
-    answers = subst (λ x. (x.answer ≡ answer n host walk) ⊎ ((x.answer ≡ Nothing) × (x.drowned ≡ true))) is_log (ask-true w host tries walk here)
+    answers = subst (λ x. (x.answer ≡ answer n host walk) ⊎ ((x.answer ≡ Nothing) × (x.drowned ≡ true))) is_log (ask-true made w host tries walk here)
 
-    first : 0 < tries → IsQuietFor w rest.world → a.drowned ≡ false
-    first some quiet =
+    first : 0 < tries → w.links.cables.changes ≡ made → IsQuietFor w rest.world → a.drowned ≡ false
+    first some unchanged quiet =
         let up = r.kept.injected in
         let left = quiet.left in
         let same = ap (λ x. x.world.injected) is_log in
-        ap (λ x. x.drowned) (sym is_log) ∙ ask-heard w host tries walk here some (λ number low high. quiet.unplanned number low (omega (arith, high, up, same))) (omega (arith, up, left, same))
+        ap (λ x. x.drowned) (sym is_log) ∙ ask-heard made w host tries walk here some unchanged (λ number low high. quiet.unplanned number low (omega (arith, high, up, same))) (omega (arith, up, left, same))
 
-    by : 0 < tries → rest.world.injected < last_count → (drowned : Bool) → a.drowned ≡ drowned → 0 < one_if drowned + rest.value.drowned → w.harmed < rest.world.harmed
+    -- no cable goes where no fault is planned
+    calm : IsQuietFor w rest.world → a.world.links.cables ≡ w.links.cables
+    calm quiet = let up = r.kept.injected in (ask-unplanned made w host tries walk).cables (λ number low high. quiet.unplanned number low (omega (arith, high, up)))
+
+    by : 0 < tries → rest.world.injected < last_count → (drowned : Bool) → a.drowned ≡ drowned → 0 < one_if drowned + rest.value.drowned → (w.harmed < rest.world.harmed) ⊎ (made < rest.world.links.cables.changes)
     by some left true e more =
-        struck (subst (λ x. (w.harmed < x.world.harmed) ⊎ (last_count ≤ x.world.injected)) is_log (ask-harmed w host tries walk here some (ap (λ x. x.drowned) is_log ∙ e)))
+        struck (subst (λ x. (w.harmed < x.world.harmed) ⊎ ((last_count ≤ x.world.injected) ⊎ (made < x.world.links.cables.changes))) is_log (ask-harmed made w host tries walk here some (ap (λ x. x.drowned) is_log ∙ e)))
       where
-        struck : (w.harmed < a.world.harmed) ⊎ (last_count ≤ a.world.injected) → w.harmed < rest.world.harmed
-        struck (inl low) = let up = r.kept.harmed in omega (arith, low, up)
-        struck (inr spent) = let up = r.kept.injected in absurd (omega (arith, left, spent, up))
+        struck : (w.harmed < a.world.harmed) ⊎ ((last_count ≤ a.world.injected) ⊎ (made < a.world.links.cables.changes)) → (w.harmed < rest.world.harmed) ⊎ (made < rest.world.links.cables.changes)
+        struck (inl low) = let up = r.kept.harmed in inl (omega (arith, low, up))
+        struck (inr (inl spent)) = let up = r.kept.injected in absurd (omega (arith, left, spent, up))
+        struck (inr (inr went)) = let up = (later-kept (pulled-later r.kept.pulled)).changes in inr (omega (arith, went, up))
     by some left false e more =
         let none : one_if false ≡ 0 = refl in
-        let up = kept.harmed in
-        let more_harmed = r.harmed some left (omega (arith, none, more)) in
-        omega (arith, up, more_harmed)
+        after (r.harmed some left (omega (arith, none, more)))
+      where
+        after : (a.world.harmed < rest.world.harmed) ⊎ (made < rest.world.links.cables.changes) → (w.harmed < rest.world.harmed) ⊎ (made < rest.world.links.cables.changes)
+        after (inl more_harmed) = let up = kept.harmed in inl (omega (arith, up, more_harmed))
+        after (inr went) = inr went
 
     later : IsQuietFor w rest.world → IsQuietFor a.world rest.world
     later quiet = let up = kept.injected in record { unplanned = λ number low high. kept.unplanned number (quiet.unplanned number (omega (arith, low, up)) high); left = quiet.left }
 
-pub asks-so : (host tries : ℕ) (walks : List (List ℤ)) (w : WorldState) → CanAsk w host [] → AllByRecursion IsCarried walks → AreAsked host tries w walks (log.asks host tries walks w)
-asks-so host tries [] w can all = record {
+pub asks-so : (made host tries : ℕ) (walks : List (List ℤ)) (w : WorldState) → CanAsk made w host [] → AllByRecursion IsCarried walks → AreAsked made host tries w walks (log.asks made host tries walks w)
+asks-so made host tries [] w can all = record {
   kept = kept-same w;
   can = can;
   found = tt;
   truth = λ none. tt;
-  heard = λ some quiet. refl;
+  heard = λ some same quiet. refl;
   harmed = λ some left more. absurd (omega (arith, more));
   few = λ low. omega arith;
 }
-asks-so host tries (walk ∷ walks) w can all = ask-push host tries walk walks w can all.0 (λ u c. asks-so host tries walks u c all.1)
+asks-so made host tries (walk ∷ walks) w can all = ask-push made host tries walk walks w can all.0 (λ u c. asks-so made host tries walks u c all.1)

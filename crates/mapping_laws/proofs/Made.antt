@@ -1,5 +1,5 @@
 -- What a mapping comes to: the laws.
-use Rattle.std.proofs.Common.{◌≡◌, ◌<◌, ◌≤◌, ◌+◌, ℕ, Bool, true, false, List, [], ◌∷◌, ◌++◌, map, length, nat_eq, cond, ◌⊎◌, inl, inr, Some, None, refl, sym, ap, ◌∙◌, subst, arith, length-append}
+use Rattle.std.proofs.Common.{◌≡◌, ◌<◌, ◌≤◌, ◌+◌, ℕ, Bool, true, false, List, [], ◌∷◌, ◌++◌, map, length, nat_eq, nat_le, cond, ◌⊎◌, inl, inr, Some, None, refl, sym, ap, ◌∙◌, subst, arith, length-append}
 use Rattle.std.specs.List.{AllByRecursion}
 use Rattle.std.specs.Map.{lookup}
 use Rattle.std.proofs.lemmas.Bool.Decides.{nat_tests}
@@ -28,6 +28,10 @@ use Rattle.map_laws.proofs.Connected.{quotient_is_connected}
 use Rattle.map_laws.proofs.Marked.{marked_map_is_map}
 use Rattle.map_laws.proofs.Ruled.{quotient_is_map}
 use Rattle.world_defs.specs.declared.fault.Fault.{Fault}
+use Rattle.cable_history.specs.declared.wire.Wire.{Wire}
+use Rattle.cable_history.specs.History.{IsDated, fabric_at}
+use Rattle.cable_history.proofs.Now.{last_is_now, now_is_fabric}
+use Rattle.journal_defs.specs.Truth.{IsTrueJournal, IsTrueWhereFound}
 use Rattle.world_defs.specs.World.{WorldState, fabric_of}
 use Rattle.ask_laws.specs.Premises.{CanAsk}
 use Rattle.world_defs.specs.Log.{Log}
@@ -50,9 +54,14 @@ carried host depth j low g = all-map IsCarried (λ (e : Entry). e.walk) j (all-f
         let few : length e.walk ≤ 64 = few-turns j e.walk depth 64 tree (are-short host depth j g) low asked in
         record { turns = all-weaker IsOnward IsTurn e.walk (λ t o. o.0) (onward-walk j 64 e.walk tree asked few); few = few }
 
-pub start : (host depth : ℕ) (w : WorldState) → CanMap host depth w → CanAsk w host []
+-- no cable was plugged after the last change
+dated-last : (changes : ℕ) (ws : List Wire) → AllByRecursion (IsDated changes) ws → AllByRecursion (λ x. nat_le x.plugged changes ≡ true) ws
+dated-last changes [] all = tt
+dated-last changes (w ∷ ws) all = let low = all.0.plugged in (grind (arith, nat_tests), dated-last changes ws all.1)
+
+pub start : (host depth : ℕ) (w : WorldState) → CanMap host depth w → CanAsk w.links.cables.changes w host []
 start host depth w can = record {
-  fabric = can.fabric;
+  stood = record { history = can.history; made = omega arith; unplugged = dated-last w.links.cables.changes w.links.cables.wires can.history.dated };
   world = can.world;
   idle = can.idle;
   is_host = can.is_host;
@@ -62,25 +71,32 @@ start host depth w can = record {
 }
 
 module _ (host depth tries : ℕ) (before after : WorldState) (j : List Entry) (m : NetMap) (words : MapWords) (can : CanMap host depth before) (made : IsMapped host depth tries before after j m words) where
+  abbrev since : ℕ
+  since = before.links.cables.changes
+
   abbrev came : Log log.AskedAll
-  came = record { value = record { entries = j; drowned = made.drowned }; events = (log.asks host tries (map (λ e. e.walk) j) before).events; world = after }
+  came = record { value = record { entries = j; drowned = made.drowned }; events = (log.asks since host tries (map (λ e. e.walk) j) before).events; world = after }
 
   -- what the mapping's asks came to
-  asked-so : AreAsked host tries before (map (λ e. e.walk) j) came
+  asked-so : AreAsked since host tries before (map (λ e. e.walk) j) came
   asked-so =
-      subst (AreAsked host tries before (map (λ e. e.walk) j)) (λ i. record { value = made.asked i; events = (log.asks host tries (map (λ e. e.walk) j) before).events; world = sym made.led i })
-      (asks-so host tries (map (λ e. e.walk) j) before (start host depth before can) (carried host depth j can.shallow made.grown.growing))
+      subst (AreAsked since host tries before (map (λ e. e.walk) j)) (λ i. record { value = made.asked i; events = (log.asks since host tries (map (λ e. e.walk) j) before).events; world = sym made.led i })
+      (asks-so since host tries (map (λ e. e.walk) j) before (start host depth before can) (carried host depth j can.shallow made.grown.growing))
+
+  -- the fabric that stood then is the one that stands before
+  then_is : fabric_at before.links.cables since ≡ fabric_of before
+  then_is = last_is_now before.links.cables since can.history (omega arith)
 
 pub found_is_there : FoundIsThere
-found_is_there host depth tries before after j m words can made = (asked-so host depth tries before after j m words can made).found
+found_is_there host depth tries before after j m words can made = subst (λ n. IsTrueWhereFound n host j) (then_is host depth tries before after j m words can made) (asked-so host depth tries before after j m words can made).found
 
 pub undrowned_is_true : UndrownedIsTrue
-undrowned_is_true host depth tries before after j m words can made none = (asked-so host depth tries before after j m words can made).truth none
+undrowned_is_true host depth tries before after j m words can made none = subst (λ n. IsTrueJournal n host j) (then_is host depth tries before after j m words can made) ((asked-so host depth tries before after j m words can made).truth none)
 
 pub made_map_is_map : MadeMapIsMap
 made_map_is_map host depth tries before after j m words can made =
     let found = found_is_there host depth tries before after j m words can made in
-    subst IsMap (sym made.marked) (marked_map_is_map made.unmarked (quotient_is_map (fabric_of before) host j made.unmarked can.fabric found made.quotient))
+    subst IsMap (sym made.marked) (marked_map_is_map made.unmarked (quotient_is_map (fabric_of before) host j made.unmarked (now_is_fabric before.links.cables can.history) found made.quotient))
 
 pub made_map_is_connected : MadeMapIsConnected
 made_map_is_connected host depth tries before after j m words made =
@@ -96,7 +112,7 @@ made_map_is_right host depth tries before after j m can made =
     let k : NetMap = made.unmarked in
     let parts = complete-parts host j made.drowned made.called in
     let truth = undrowned_is_true host depth tries before after j m Complete can made parts.0 in
-    let unmarked = closed_map_is_right n host depth j k can.fabric truth made.grown parts.1 made.quotient in
+    let unmarked = closed_map_is_right n host depth j k (now_is_fabric before.links.cables can.history) truth made.grown parts.1 made.quotient in
     subst (IsMapOfPart n host) (sym made.marked)
     (same_map_is_right n host k (record k { core = core_of k }) (marks_do_not_matter (record k { core = core_of k }) k refl refl) unmarked)
 
@@ -104,7 +120,7 @@ pub mapping_keeps : MappingKeeps
 mapping_keeps host depth tries before after j m words can made =
     let r = asked-so host depth tries before after j m words can made in
     let is = r.can in
-    (r.kept, record { fabric = is.fabric; world = is.world; idle = is.idle; is_host = is.is_host; byte_flips = is.byte_flips; shallow = can.shallow })
+    (r.kept, record { history = is.stood.history; world = is.world; idle = is.idle; is_host = is.is_host; byte_flips = is.byte_flips; shallow = can.shallow })
 
 -- a journal that has grown has few asks
 few-of : (host depth : ℕ) (j : List Entry) → IsGrowing host depth j → length (reached j) ≤ 65535 → length j ≤ 1966051
@@ -150,12 +166,13 @@ deep_map_is_complete host depth tries before after j m words can made quiet some
     let asks = grown-few host depth j made.grown in
     let same = length-map j (λ (e : Entry). e.walk) in
     let start_at = quiet.injections_left in
-    let none = r.heard (omega (arith, some)) (record {
+    let none = r.heard (omega (arith, some)) refl (record {
       unplanned = λ number above below. unplanned-between number before.injected after.injected before.plan quiet.unplanned above below;
       left = omega (arith, few, asks, same, start_at);
     }) in
     let there : has_vertex n (Host host) ≡ true = (let is = can.is_host in let hosts = can.world.hosts in grind (arith, nat_tests)) in
-    let ends = depth_suffices n host depth j can.fabric there deep quiet.small (r.truth none) made.grown in
+    let truth = undrowned_is_true host depth tries before after j m words can made none in
+    let ends = depth_suffices n host depth j (now_is_fabric before.links.cables can.history) there deep quiet.small truth made.grown in
     called-complete host j made.drowned words made.called ends.not_at_limit ends.closed none
 
 -- a map that is called doubtful has drowned asks

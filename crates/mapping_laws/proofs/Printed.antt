@@ -1,12 +1,11 @@
--- Each line that says complete, or reports circuit links, is followed by a right map, in what every command prints and
--- so in what a run prints.
-use Rattle.std.proofs.Common.{◌≡◌, ◌≤◌, ℕ, Bool, true, false, not, List, [], ◌∷◌, ◌++◌, map, Option, Some, None, refl, sym, subst, if◌then◌else◌}
+-- Each line that says complete, or reports circuit links, is the first that a command prints, and followed by a map
+-- that is right in the fabric before the command; so the command is named for each such line of what a run prints.
+use Rattle.std.proofs.Common.{◌≡◌, ℕ, Bool, true, false, not, List, [], ◌∷◌, ◌++◌, map, length, Option, Some, None, refl, sym, ap, ◌∙◌, subst, if◌then◌else◌}
 use Rattle.std.specs.List.{AllByRecursion}
 use Rattle.net_defs.specs.declared.route.Route.{Route}
-use Rattle.net_defs.specs.Network.{Network, IsFabric}
+use Rattle.net_defs.specs.Network.{Network}
 use Rattle.link_defs.specs.Links.{is_idle}
 use Rattle.journal_defs.specs.declared.entry.Entry.{Entry}
-use Rattle.journal_defs.specs.Depth.{enough_depth}
 use Rattle.journal_defs.proofs.Members.{all-join}
 use Rattle.gm_defs.specs.Token.{PortState}
 use Rattle.map_defs.specs.NetMap.{NetMap}
@@ -16,7 +15,8 @@ use Rattle.map_defs.specs.Sameness.{IsMapOfPart}
 use Rattle.world_defs.specs.declared.event.Event.{Event}
 use Rattle.world_defs.specs.declared.effect.Effect.{Effect}
 use Rattle.world_defs.specs.Node.{port_at}
-use Rattle.world_defs.specs.World.{WorldState, node_at, adopted_by, may_adopt}
+use Rattle.cable_history.proofs.Now.{now_is_fabric}
+use Rattle.world_defs.specs.World.{WorldState, fabric_of, node_at, adopted_by}
 use Rattle.world_defs.specs.Step.{step}
 use Rattle.world_defs.specs.Logs as log
 use Rattle.world_defs.specs.Log.{Log}
@@ -31,16 +31,16 @@ use Rattle.run_defs.specs.Mapped.{IsMapped}
 use Rattle.run_defs.specs.Circuit.{IsCircuitTold}
 use Rattle.run_defs.specs.Circuit.IsCircuitTold.{whole, too_many_nodes}
 use Rattle.run_defs.specs.Output.{Piece, OneLine, MapLines, lines}
-use Rattle.run_defs.specs.Session.{SessionState, LastMap, LastRoutes, complete_map}
-use Rattle.run_defs.specs.Outcome.{Outcome, says_only, event_of, stepped, step_or_idle, token_lines, table_line, install_done, install_now, install, map_refused, routes_refused, outcome, set_of, adopt_cause}
+use Rattle.run_defs.specs.Session.{SessionState, LastMap, LastRoutes, new_session, complete_map}
+use Rattle.run_defs.specs.Outcome.{Outcome, says_only, event_of, stepped, step_or_idle, token_lines, table_line, install_done, install_now, install, map_refused, routes_refused, outcome, set_of, may_install, refusal_cause}
 use Rattle.run_defs.specs.Run.{Does, Runs, map_pieces, route_line, rank_line, routes_lines}
 use Rattle.run_defs.specs.Run.Does.{determined, maps, circuits, routes}
 use Rattle.run_defs.specs.Run.Runs.{ended, goes_on}
-use Rattle.run_defs.specs.Headline.{IsCommandOf}
+use Rattle.run_defs.specs.Headline.{IsCommandOf, WasTrue}
 use Rattle.circ_defs.specs.CircuitMap.{IsCircuitMap}
 use Rattle.circ_map_laws.proofs.Numbering.{circuit_map_is_core}
 use Rattle.mapping_laws.specs.Runs.{IsSessionOf, CompleteMapsAreTrue, DeepMapsAreComplete}
-use Rattle.mapping_laws.specs.Circuits.{CircuitMapsAreTrue, DeepCircuitMapsAreCores}
+use Rattle.mapping_laws.specs.Circuits.{WasTold, CircuitMapsAreTrue}
 use Rattle.mapping_laws.proofs.Made.{made_map_is_right, deep_map_is_complete}
 use Rattle.mapping_laws.proofs.Sessions.{can-map, can-map-now, does-stays, new-session, run_keeps_world}
 
@@ -63,145 +63,245 @@ abbrev IsHeaded : Network → Heading → NetMap → Type 0
 IsHeaded n (OfPart mapper) m = IsMapOfPart n mapper m
 IsHeaded n (OfCircuit host depth asks) m = IsCircuitTold n host depth (OneLine (CircuitLine host depth asks) ∷ MapLines m ∷ [])
 
--- such a map comes first
-abbrev IsRightFirst : Network → Heading → List Piece → Type 0
-IsRightFirst n h (MapLines m ∷ rest) = IsHeaded n h m
-IsRightFirst n h _ = ⊥
+-- a command asks for such a map
+abbrev IsFor : Heading → Command → Type 0
+IsFor (OfPart mapper) c = (depth : ℕ) × (tries : ℕ) × (c ≡ Map mapper depth tries)
+IsFor (OfCircuit host depth asks) c = c ≡ Circuit host depth
 
-abbrev IsFollowed : Network → Option Heading → List Piece → Type 0
-IsFollowed n None rest = Unit {0}
-IsFollowed n (Some h) rest = IsRightFirst n h rest
+-- pieces that ask for no map after them
+abbrev IsOtherPiece : Piece → Type 0
+IsOtherPiece p = heading_of p ≡ None
 
-abbrev AreRight : Network → List Piece → Type 0
-AreRight n [] = Unit {0}
-AreRight n (p ∷ ps) = IsFollowed n (heading_of p) ps × AreRight n ps
-
--- what holds of two outputs holds of both in a row
-first-both : (n : Network) (h : Heading) (xs ys : List Piece) → IsRightFirst n h xs → IsRightFirst n h (xs ++ ys)
-first-both n h [] ys is = absurd is
-first-both n h (MapLines m ∷ xs) ys is = is
-first-both n h (OneLine l ∷ xs) ys is = absurd is
-
-followed-both : (n : Network) (o : Option Heading) (xs ys : List Piece) → IsFollowed n o xs → IsFollowed n o (xs ++ ys)
-followed-both n None xs ys is = tt
-followed-both n (Some h) xs ys is = first-both n h xs ys is
-
-right-both : (n : Network) (xs ys : List Piece) → AreRight n xs → AreRight n ys → AreRight n (xs ++ ys)
-right-both n [] ys a b = b
-right-both n (x ∷ xs) ys a b = (followed-both n (heading_of x) xs ys a.0, right-both n xs ys a.1 b)
-
--- a map that is printed after a line is right
-printed-right : (n : Network) (l : Line) (m : NetMap) (before behind : List Piece) → AreRight n (before ++ OneLine l ∷ MapLines m ∷ behind) → IsFollowed n (heading_in l) (MapLines m ∷ behind)
-printed-right n l m [] behind all = all.0
-printed-right n l m (p ∷ before) behind all = printed-right n l m before behind all.1
+-- What a command prints over a fabric: no line that asks for a map, or one and its map alone.
+data Prints (n : Network) (c : Command) (out : List Piece) : Type 0 where
+  plain : AllByRecursion IsOtherPiece out → Prints n c out
+  headed : (l : Line) (h : Heading) (m : NetMap) → heading_in l ≡ Some h → IsFor h c → IsHeaded n h m → out ≡ OneLine l ∷ MapLines m ∷ [] → Prints n c out
 
 -- lines that ask for no map after them
 abbrev IsOther : Line → Type 0
 IsOther l = heading_in l ≡ None
 
-lines-right : (n : Network) (ls : List Line) → AllByRecursion IsOther ls → AreRight n (lines ls)
-lines-right n [] all = tt
-lines-right n (l ∷ ls) all = (subst (λ o. IsFollowed n o (lines ls)) (sym all.0) tt, lines-right n ls all.1)
+lines-other : (ls : List Line) → AllByRecursion IsOther ls → AllByRecursion IsOtherPiece (lines ls)
+lines-other [] all = tt
+lines-other (l ∷ ls) all = (all.0, lines-other ls all.1)
 
 each-other : {X : Type 0} (f : X → Line) (xs : List X) → ((x : X) → IsOther (f x)) → AllByRecursion IsOther (map f xs)
 each-other f [] e = tt
 each-other f (x ∷ xs) e = (e x, each-other f xs e)
 
-abbrev RightIn : Network → Option Outcome → Type 0
-RightIn n None = Unit {0}
-RightIn n (Some o) = AreRight n o.output
+abbrev OthersIn : Option Outcome → Type 0
+OthersIn None = Unit {0}
+OthersIn (Some o) = AllByRecursion IsOtherPiece o.output
 
-token-right : (n : Network) (h port : ℕ) (o : Option PortState) → AreRight n (lines (token_lines h port o))
-token-right n h port None = (tt, tt)
-token-right n h port (Some p) = (tt, tt)
+token-other : (h port : ℕ) (o : Option PortState) → AllByRecursion IsOtherPiece (lines (token_lines h port o))
+token-other h port None = (refl, tt)
+token-other h port (Some p) = (refl, tt)
 
-stepped-right : (n : Network) (s : SessionState) (r : Effect × WorldState) → RightIn n (Some (stepped s r))
-stepped-right n s (x, w) = (tt, tt)
+stepped-other : (s : SessionState) (r : Effect × WorldState) → OthersIn (Some (stepped s r))
+stepped-other s (x, w) = (refl, tt)
 
-step-right : (n : Network) (s : SessionState) (o : Option Event) → RightIn n (Some (step_or_idle s o))
-step-right n s None = (tt, tt)
-step-right n s (Some e) = stepped-right n s (step s.world e)
+step-other : (s : SessionState) (o : Option Event) → OthersIn (Some (step_or_idle s o))
+step-other s None = (refl, tt)
+step-other s (Some e) = stepped-other s (step s.world e)
 
-done-right : (n : Network) (s : SessionState) (hosts : List ℕ) (r : Log ℕ) → RightIn n (Some (install_done s hosts r))
-done-right n s hosts r = (tt, lines-right n (map (table_line r.world) hosts) (each-other (table_line r.world) hosts (λ h. refl)))
+done-other : (s : SessionState) (hosts : List ℕ) (r : Log ℕ) → OthersIn (Some (install_done s hosts r))
+done-other s hosts r = (refl, lines-other (map (table_line r.world) hosts) (each-other (table_line r.world) hosts (λ h. refl)))
 
-install-right : (n : Network) (s : SessionState) (tries : ℕ) (o : Option LastRoutes) → RightIn n (Some (install s tries o))
-install-right n s tries None = (tt, tt)
-install-right n s tries (Some l) = by (not (is_idle s.world.links)) (not (may_adopt s.world l.routes))
+install-other : (s : SessionState) (tries : ℕ) (o : Option LastRoutes) → OthersIn (Some (install s tries o))
+install-other s tries None = (refl, tt)
+install-other s tries (Some l) = by (not (is_idle s.world.links)) (not (may_install s.world l))
   where
-    by : (busy other : Bool) → RightIn n (Some (if busy then says_only s (InstallRefused Busy ∷ []) else if other then says_only s (InstallRefused (adopt_cause s.world) ∷ []) else install_now s l tries))
-    by true other = (tt, tt)
-    by false true = (tt, tt)
-    by false false = done-right n s l.hosts (log.install (set_of s.world l) l.hosts tries (adopted_by s.world l.mapper l.routes))
+    by : (busy other : Bool) → OthersIn (Some (if busy then says_only s (InstallRefused Busy ∷ []) else if other then says_only s (InstallRefused (refusal_cause s.world l) ∷ []) else install_now s l tries))
+    by true other = (refl, tt)
+    by false true = (refl, tt)
+    by false false = done-other s l.hosts (log.install (set_of s.world l) l.hosts tries (adopted_by s.world l.mapper l.routes))
 
-refused-right : (n : Network) (s : SessionState) (o : Option LastMap) → RightIn n (routes_refused s o)
-refused-right n s None = (tt, tt)
-refused-right n s (Some l) = tt
+refused-other : (s : SessionState) (o : Option LastMap) → OthersIn (routes_refused s o)
+refused-other s None = (refl, tt)
+refused-other s (Some l) = tt
 
-busy-right : (n : Network) (s : SessionState) (host : ℕ) → RightIn n (map_refused s host)
-busy-right n s host = by (is_idle s.world.links)
+busy-other : (s : SessionState) (host : ℕ) → OthersIn (map_refused s host)
+busy-other s host = by (is_idle s.world.links)
   where
-    by : (idle : Bool) → RightIn n (if idle then None else Some (says_only s (MapBusy host ∷ [])))
+    by : (idle : Bool) → OthersIn (if idle then None else Some (says_only s (MapBusy host ∷ [])))
     by true = tt
-    by false = (tt, tt)
+    by false = (refl, tt)
 
-outcome-right : (n : Network) (s : SessionState) (c : Command) → RightIn n (outcome s c)
-outcome-right n s (Walk host walk) = (tt, tt)
-outcome-right n s (Map host depth tries) = busy-right n s host
-outcome-right n s (Circuit host depth) = tt
-outcome-right n s Routes = refused-right n s (complete_map s.last_map)
-outcome-right n s (Install tries) = install-right n s tries s.last_routes
-outcome-right n s (BeginCommand h port sends recvs) = (tt, tt)
-outcome-right n s (CloseCommand h port) = (tt, tt)
-outcome-right n s (PollCommand h port) = (tt, tt)
-outcome-right n s (Tokens h port) = token-right n h port (port_at (node_at s.world h) port)
-outcome-right n s (ProvideCommand h port size prio) = (tt, tt)
-outcome-right n s (SendCommand h port dest dport prio len seed) = (tt, tt)
-outcome-right n s (Plan ahead kind) = (tt, tt)
-outcome-right n s (Step line) = step-right n s (event_of s.world line)
-outcome-right n s Settle = (tt, tt)
-outcome-right n s Finish = (tt, tt)
-outcome-right n s (Duo e) = (tt, tt)
+outcome-other : (s : SessionState) (c : Command) → OthersIn (outcome s c)
+outcome-other s (Walk host walk) = (refl, tt)
+outcome-other s (Map host depth tries) = busy-other s host
+outcome-other s (Circuit host depth) = tt
+outcome-other s Routes = refused-other s (complete_map s.last_map)
+outcome-other s (Install tries) = install-other s tries s.last_routes
+outcome-other s (BeginCommand h port sends recvs) = (refl, tt)
+outcome-other s (CloseCommand h port) = (refl, tt)
+outcome-other s (PollCommand h port) = (refl, tt)
+outcome-other s (Tokens h port) = token-other h port (port_at (node_at s.world h) port)
+outcome-other s (ProvideCommand h port size prio) = (refl, tt)
+outcome-other s (SendCommand h port dest dport prio len seed) = (refl, tt)
+outcome-other s (Plan ahead kind) = (refl, tt)
+outcome-other s (Step line) = step-other s (event_of s.world line)
+outcome-other s Settle = (refl, tt)
+outcome-other s Finish = (refl, tt)
+outcome-other s (Duo e) = (refl, tt)
 
-map-right : (n : Network) (host asks packets : ℕ) (m : NetMap) (words : MapWords) → (words ≡ Complete → IsMapOfPart n host m) → AreRight n (OneLine (MapLine host words asks packets) ∷ map_pieces words m)
-map-right n host asks packets m Complete is = (is refl, (tt, tt))
-map-right n host asks packets m (Doubtful drowned) is = (tt, (tt, tt))
-map-right n host asks packets m IncompleteDepth is = (tt, (tt, tt))
-map-right n host asks packets m IncompleteNodes is = (tt, tt)
+map-prints : (n : Network) (host depth tries asks packets : ℕ) (m : NetMap) (words : MapWords) → (words ≡ Complete → IsMapOfPart n host m) → Prints n (Map host depth tries) (OneLine (MapLine host words asks packets) ∷ map_pieces words m)
+map-prints n host depth tries asks packets m Complete is = headed (MapLine host Complete asks packets) (OfPart host) m refl (depth, tries, refl) (is refl) refl
+map-prints n host depth tries asks packets m (Doubtful drowned) is = plain (refl, (refl, tt))
+map-prints n host depth tries asks packets m IncompleteDepth is = plain (refl, (refl, tt))
+map-prints n host depth tries asks packets m IncompleteNodes is = plain (refl, tt)
 
-routes-right : (n : Network) (m : NetMap) (found : List Route) → AreRight n (lines (routes_lines m found))
-routes-right n m found = lines-right n (routes_lines m found) (
+routes-other : (m : NetMap) (found : List Route) → AllByRecursion IsOtherPiece (lines (routes_lines m found))
+routes-other m found = lines-other (routes_lines m found) (
   refl,
   all-join IsOther (map route_line found ++ map (rank_line m) (ranks_of m (order_of m))) (EndRoutes ∷ [])
       (all-join IsOther (map route_line found) (map (rank_line m) (ranks_of m (order_of m))) (each-other route_line found (λ r. refl)) (each-other (rank_line m) (ranks_of m (order_of m)) (λ k. refl)))
       (refl, tt),
 )
 
-circuit-right : (n : Network) (host depth : ℕ) (out : List Piece) → IsCircuitTold n host depth out → AreRight n out
-circuit-right n host depth out (whole j m growing kept is printed) = subst (AreRight n) (sym printed) (whole j m growing kept is refl, (tt, tt))
-circuit-right n host depth out (too_many_nodes j growing passed printed) = subst (AreRight n) (sym printed) (tt, tt)
+circuit-prints : (n : Network) (host depth : ℕ) (out : List Piece) → IsCircuitTold n host depth out → Prints n (Circuit host depth) out
+circuit-prints n host depth out (whole j m growing kept is printed) = headed (CircuitLine host depth (length j)) (OfCircuit host depth (length j)) m refl refl (whole j m growing kept is refl) printed
+circuit-prints n host depth out (too_many_nodes j growing passed printed) = plain (subst (AllByRecursion IsOtherPiece) (sym printed) (refl, tt))
 
-does-right : {s next : SessionState} {c : Command} {out : List Piece} → (n : Network) → IsFabric n → IsCommandOf n c → IsSessionOf n s → Does s c out next → AreRight n out
-does-right {s = s} {c = c} n f of_n is (determined e) = subst (RightIn n) e (outcome-right n s c)
-does-right {s = s} n f of_n is (maps {host = host} {depth = depth} {tries = tries} after j m words none made printed left) =
-    let can = can-map-now n s host depth tries f of_n is none in
-    subst (AreRight n) (sym printed) (map-right n host _ _ m words
-    (λ e. subst (λ k. IsMapOfPart k host m) is.fabric (made_map_is_right host depth tries s.world after j m can (subst (IsMapped host depth tries s.world after j m) e made))))
-does-right {s = s} {out = out} n f of_n is (circuits {host = host} {depth = depth} told left) = circuit-right n host depth out (subst (λ k. IsCircuitTold k host depth out) is.fabric told)
-does-right {s = s} n f of_n is (routes l found complete are printed left) = subst (AreRight n) (sym printed) (routes-right n l.made found)
+does-print : {s next : SessionState} {c : Command} {out : List Piece} → (n : Network) → IsCommandOf n c → IsSessionOf n s → Does s c out next → Prints (fabric_of s.world) c out
+does-print {s = s} {c = c} n of_n is (determined e) = plain (subst OthersIn e (outcome-other s c))
+does-print {s = s} n of_n is (maps {host = host} {depth = depth} {tries = tries} after j m words none made printed left) =
+    let can = can-map-now n s host depth tries of_n is none in
+    subst (Prints (fabric_of s.world) (Map host depth tries)) (sym printed) (map-prints (fabric_of s.world) host depth tries _ _ m words
+    (λ e. made_map_is_right host depth tries s.world after j m can (subst (IsMapped host depth tries s.world after j m) e made)))
+does-print {s = s} {out = out} n of_n is (circuits {host = host} {depth = depth} told left) = circuit-prints (fabric_of s.world) host depth out told
+does-print {s = s} n of_n is (routes l found complete are printed left) = plain (subst (AllByRecursion IsOtherPiece) (sym printed) (routes-other l.made found))
 
-runs-right : {s last : SessionState} {cs : List Command} {out : List Piece} → (n : Network) → IsFabric n → AllByRecursion (IsCommandOf n) cs → IsSessionOf n s → Runs s cs out last → AreRight n out
-runs-right n f all is ended = tt
-runs-right n f all is (goes_on {out = out} {rest = rest} d r e) =
-    subst (AreRight n) (sym e) (right-both n out rest (does-right n f all.0 is d) (runs-right n f all.1 (does-stays n f all.0 is d) r))
+-- where a piece of two outputs in a row stands: in the first or in the second
+data Stands (xs ys before : List Piece) (p : Piece) (behind : List Piece) : Type 0 where
+  in_first : (mid : List Piece) → xs ≡ before ++ p ∷ mid → mid ++ ys ≡ behind → Stands xs ys before p behind
+  in_second : (b : List Piece) → before ≡ xs ++ b → ys ≡ b ++ p ∷ behind → Stands xs ys before p behind
+
+head-of : (x y : Piece) (xs ys : List Piece) → x ∷ xs ≡ y ∷ ys → x ≡ y
+head-of x y xs ys e = cc
+
+tail-of : (x y : Piece) (xs ys : List Piece) → x ∷ xs ≡ y ∷ ys → xs ≡ ys
+tail-of x y xs ys e = cc
+
+stands : (xs ys before : List Piece) (p : Piece) (behind : List Piece) → xs ++ ys ≡ before ++ p ∷ behind → Stands xs ys before p behind
+stands [] ys before p behind e = in_second before refl e
+stands (x ∷ xs) ys [] p behind e = in_first xs (ap (λ q. q ∷ xs) (head-of x p (xs ++ ys) behind e)) (tail-of x p (xs ++ ys) behind e)
+stands (x ∷ xs) ys (b ∷ before) p behind e =
+    let same : x ≡ b = head-of x b (xs ++ ys) (before ++ p ∷ behind) e in
+    by same (stands xs ys before p behind (tail-of x b (xs ++ ys) (before ++ p ∷ behind) e))
+  where
+    by : x ≡ b → Stands xs ys before p behind → Stands (x ∷ xs) ys (b ∷ before) p behind
+    by same (in_first mid first rest) = in_first mid (ap (λ l. x ∷ l) first ∙ ap (λ q. q ∷ (before ++ p ∷ mid)) same) rest
+    by same (in_second c front rest) = in_second c (ap (λ l. b ∷ l) front ∙ ap (λ q. q ∷ (xs ++ c)) (sym same)) rest
+
+none-among : (before : List Piece) (p : Piece) (mid : List Piece) → AllByRecursion IsOtherPiece (before ++ p ∷ mid) → heading_of p ≡ None
+none-among [] p mid all = all.0
+none-among (x ∷ before) p mid all = none-among before p mid all.1
+
+-- a line that asks for a map, in what a command prints, is the first piece, and its map the second
+record IsFirst (n : Network) (c : Command) (before : List Piece) (h : Heading) (mid : List Piece) : Type 0 where
+  first : before ≡ []
+  command : IsFor h c
+  made : NetMap
+  right : IsHeaded n h made
+  behind : mid ≡ MapLines made ∷ []
+
+same-heading : (h k : Heading) → Some h ≡ Some k → h ≡ k
+same-heading h k e = cc
+
+first-in : (n : Network) (c : Command) (out before : List Piece) (l : Line) (h : Heading) (mid : List Piece) → Prints n c out → heading_in l ≡ Some h → out ≡ before ++ OneLine l ∷ mid → IsFirst n c before h mid
+first-in n c out before l h mid (plain all) is e =
+    let none : heading_in l ≡ None = none-among before (OneLine l) mid (subst (AllByRecursion IsOtherPiece) e all) in cc
+first-in n c out [] l h mid (headed k g m head asked right printed) is e =
+    let both : OneLine k ∷ MapLines m ∷ [] ≡ OneLine l ∷ mid = sym printed ∙ e in
+    let line : k ≡ l = cc in
+    let same : g ≡ h = same-heading g h (sym head ∙ ap heading_in line ∙ is) in
+    record {
+      first = refl;
+      command = subst (λ x. IsFor x c) same asked;
+      made = m;
+      right = subst (λ x. IsHeaded n x m) same right;
+      behind = sym (tail-of (OneLine k) (OneLine l) (MapLines m ∷ []) mid both);
+    }
+first-in n c out (x ∷ []) l h mid (headed k g m head asked right printed) is e =
+    let both : OneLine k ∷ MapLines m ∷ [] ≡ x ∷ OneLine l ∷ mid = sym printed ∙ e in
+    let wrong : MapLines m ≡ OneLine l = head-of (MapLines m) (OneLine l) [] mid (tail-of (OneLine k) x (MapLines m ∷ []) (OneLine l ∷ mid) both) in
+    cc
+first-in n c out (x ∷ y ∷ before) l h mid (headed k g m head asked right printed) is e =
+    let both : OneLine k ∷ MapLines m ∷ [] ≡ x ∷ y ∷ (before ++ OneLine l ∷ mid) = sym printed ∙ e in
+    let wrong : [] ≡ before ++ OneLine l ∷ mid = tail-of (MapLines m) y [] (before ++ OneLine l ∷ mid) (tail-of (OneLine k) x (MapLines m ∷ []) (y ∷ (before ++ OneLine l ∷ mid)) both) in
+    absurd (nothing before wrong)
+  where
+    nothing : (ps : List Piece) → [] ≡ ps ++ OneLine l ∷ mid → ⊥
+    nothing [] d = cc
+    nothing (q ∷ ps) d = cc
+
+-- The command that printed a map, the commands and the session before it.
+record IsMaker (n : Network) (s : SessionState) (cs : List Command) (before : List Piece) (h : Heading) (m : NetMap) : Type 0 where
+  front : List Command
+  command : Command
+  rest : List Command
+  split : cs ≡ front ++ command ∷ rest
+  session : SessionState
+  ran : Runs s front before session
+  asked : IsFor h command
+  is : IsSessionOf n session
+  right : IsHeaded (fabric_of session.world) h m
+
+same-map : (m k : NetMap) (xs ys : List Piece) → MapLines m ∷ xs ≡ MapLines k ∷ ys → m ≡ k
+same-map m k xs ys e = cc
+
+maker : {s last : SessionState} {cs : List Command} {out : List Piece} → (n : Network) → AllByRecursion (IsCommandOf n) cs → IsSessionOf n s → Runs s cs out last
+    → (before : List Piece) (l : Line) (h : Heading) (m : NetMap) (behind : List Piece) → heading_in l ≡ Some h → out ≡ before ++ OneLine l ∷ MapLines m ∷ behind → IsMaker n s cs before h m
+maker n all is ended before l h m behind head e = absurd (nothing before e)
+  where
+    nothing : (ps : List Piece) → [] ≡ ps ++ OneLine l ∷ MapLines m ∷ behind → ⊥
+    nothing [] d = cc
+    nothing (q ∷ ps) d = cc
+maker {s = s} n all is (goes_on {next = next} {c = c} {cs = cs} {out = out} {rest = rest} d r e) before l h m behind head f =
+    by (stands out rest before (OneLine l) (MapLines m ∷ behind) (sym e ∙ f)) (λ b there. maker n all.1 (does-stays n all.0 is d) r b l h m behind head there)
+  where
+    by : Stands out rest before (OneLine l) (MapLines m ∷ behind) → ((b : List Piece) → rest ≡ b ++ OneLine l ∷ MapLines m ∷ behind → IsMaker n next cs b h m) → IsMaker n s (c ∷ cs) before h m
+    by (in_first mid first left) again =
+        let k = first-in (fabric_of s.world) c out before l h mid (does-print n all.0 is d) head first in
+        let same : k.made ≡ m = same-map k.made m rest behind (sym (ap (λ x. x ++ rest) k.behind) ∙ left) in
+        record {
+          front = [];
+          command = c;
+          rest = cs;
+          split = refl;
+          session = s;
+          ran = subst (λ x. Runs s [] x s) (sym k.first) ended;
+          asked = k.command;
+          is = is;
+          right = subst (IsHeaded (fabric_of s.world) h) same k.right;
+        }
+    by (in_second b front left) again =
+        let k = again b left in
+        record {
+          front = c ∷ k.front;
+          command = k.command;
+          rest = k.rest;
+          split = ap (λ x. c ∷ x) k.split;
+          session = k.session;
+          ran = goes_on d k.ran front;
+          asked = k.asked;
+          is = k.is;
+          right = k.right;
+        }
+
+-- the command that maps, and the command that asks for circuit links
+part-true : (n : Network) (commands : List Command) (before : List Piece) (mapper : ℕ) (m : NetMap) → (k : IsMaker n (new_session n) commands before (OfPart mapper) m) → WasTrue n commands before mapper m
+part-true n commands before mapper m k = record {
+  depth = k.asked.0;
+  tries = k.asked.1;
+  done = record { front = k.front; rest = k.rest; split = k.split ∙ ap (λ c. k.front ++ c ∷ k.rest) k.asked.2; session = k.session; ran = k.ran };
+  right = k.right;
+}
 
 pub complete_maps_are_true : CompleteMapsAreTrue
 complete_maps_are_true n commands f all out last mapper m r p =
-    printed-right n (MapLine mapper Complete p.asks p.packets) m p.before p.behind (subst (AreRight n) p.there (runs-right n f all (new-session n) r))
-
-pub circuit_maps_are_true : CircuitMapsAreTrue
-circuit_maps_are_true n commands out last host depth asks m f all r p =
-    printed-right n (CircuitLine host depth asks) m p.before p.behind (subst (AreRight n) p.there (runs-right n f all (new-session n) r))
+    part-true n commands p.before mapper m (maker n all (new-session n f) r p.before (MapLine mapper Complete p.asks p.packets) (OfPart mapper) m p.behind refl p.there)
 
 -- the map that is reported of circuit links
 told-map : (n : Network) (host depth asks : ℕ) (m : NetMap) (out : List Piece) → out ≡ OneLine (CircuitLine host depth asks) ∷ MapLines m ∷ [] → IsCircuitTold n host depth out → (j : List Entry) × IsCircuitMap n host depth j m
@@ -210,13 +310,21 @@ told-map n host depth asks m out same (whole j k growing kept is printed) =
     (j, subst (IsCircuitMap n host depth j) one is)
 told-map n host depth asks m out same (too_many_nodes j growing passed printed) = cc
 
-pub deep_circuit_maps_are_cores : DeepCircuitMapsAreCores
-deep_circuit_maps_are_cores n commands out last host depth asks m es f all r p paths deep =
-    let told = told-map n host depth asks m (OneLine (CircuitLine host depth asks) ∷ MapLines m ∷ []) refl (circuit_maps_are_true n commands out last host depth asks m f all r p) in
-    circuit_map_is_core n host depth told.0 es m f paths deep told.1
+circuit-told : (n : Network) (commands : List Command) (before : List Piece) (host depth asks : ℕ) (m : NetMap) → (k : IsMaker n (new_session n) commands before (OfCircuit host depth asks) m) → WasTold n commands before host depth asks m
+circuit-told n commands before host depth asks m k =
+    let now : Network = fabric_of k.session.world in
+    let t = told-map now host depth asks m (OneLine (CircuitLine host depth asks) ∷ MapLines m ∷ []) refl k.right in
+    record {
+      done = record { front = k.front; rest = k.rest; split = k.split ∙ ap (λ c. k.front ++ c ∷ k.rest) k.asked; session = k.session; ran = k.ran };
+      told = k.right;
+      core = λ es paths deep. circuit_map_is_core now host depth t.0 es m (now_is_fabric k.session.world.links.cables k.is.history) paths deep t.1;
+    }
+
+pub circuit_maps_are_true : CircuitMapsAreTrue
+circuit_maps_are_true n commands out last host depth asks m f all r p =
+    circuit-told n commands p.before host depth asks m (maker n all (new-session n f) r p.before (CircuitLine host depth asks) (OfCircuit host depth asks) m p.behind refl p.there)
 
 pub deep_maps_are_complete : DeepMapsAreComplete
 deep_maps_are_complete n commands out s host depth tries after j m words f all r of_n made quiet some low deep =
     let is = run_keeps_world n commands out s f all r in
-    deep_map_is_complete host depth tries s.world after j m words (can-map n s host depth f of_n.0 of_n.1 is quiet.idle) made quiet some low
-    (subst (λ k. enough_depth k host ≤ depth) (sym is.fabric) deep)
+    deep_map_is_complete host depth tries s.world after j m words (can-map n s host depth of_n.0 of_n.1 is quiet.idle) made quiet some low deep

@@ -1,13 +1,14 @@
 -- What each command keeps of its session's world, and so every run.
-use Rattle.std.proofs.Common.{◌≡◌, ◌<◌, ◌≤◌, ℕ, Bool, true, false, not, List, [], ◌∷◌, length, Option, Some, None, refl, sym, ◌∙◌, ap, subst, if◌then◌else◌}
+use Rattle.std.proofs.Common.{◌≡◌, ◌<◌, ◌≤◌, ℕ, Bool, true, false, not, List, [], ◌∷◌, map, length, Option, Some, None, refl, sym, ◌∙◌, ap, subst, arith, if◌then◌else◌}
 use Rattle.std.specs.List.{AllByRecursion}
 use Rattle.net_defs.specs.Network.{Network, IsFabric}
-use Rattle.cable_history.proofs.First.{first_stands}
+use Rattle.act_defs.proofs.Cables.{new-cables}
+use Rattle.journal_defs.specs.declared.entry.Entry.{Entry}
 use Rattle.link_defs.specs.Links.{is_idle}
 use Rattle.world_defs.specs.declared.event.Event.{Event}
 use Rattle.world_defs.specs.declared.event.Event.TheVariants.{Begin, Close, Provide, Send, Poll}
 use Rattle.world_defs.specs.declared.effect.Effect.{Effect}
-use Rattle.world_defs.specs.World.{WorldState, adopted_by, may_adopt}
+use Rattle.world_defs.specs.World.{WorldState, adopted_by}
 use Rattle.world_defs.specs.Step.{step}
 use Rattle.world_defs.specs.Logs as log
 use Rattle.world_defs.specs.Log.{Log}
@@ -19,15 +20,14 @@ use Rattle.run_defs.specs.declared.line.Line.TheVariants.{MapBusy, InstallRefuse
 use Rattle.run_defs.specs.declared.line.InstallCause.TheVariants.{Busy}
 use Rattle.run_defs.specs.Output.{Piece}
 use Rattle.run_defs.specs.Session.{SessionState, LastMap, LastRoutes, new_session, complete_map}
-use Rattle.run_defs.specs.Outcome.{Outcome, says_only, called, event_of, stepped, step_or_idle, fault_of, install_done, install_now, install, map_refused, routes_refused, outcome, set_of, adopt_cause}
+use Rattle.run_defs.specs.Outcome.{Outcome, says_only, called, event_of, stepped, step_or_idle, fault_of, install_done, install_now, install, map_refused, routes_refused, outcome, set_of, may_install, refusal_cause}
 use Rattle.run_defs.specs.Run.{Does, Runs}
 use Rattle.run_defs.specs.Run.Does.{determined, maps, circuits, routes}
 use Rattle.run_defs.specs.Run.Runs.{ended, goes_on}
 use Rattle.mapping_laws.specs.Laws.{CanMap}
 use Rattle.run_defs.specs.Headline.{IsCommandOf}
 use Rattle.mapping_laws.specs.Runs.{IsSessionOf, RunKeepsWorld}
-use Rattle.mapping_laws.proofs.Made.{mapping_keeps}
-use Rattle.install_laws.proofs.Worlds.{Stays, stays-same, stays-both, stays-event, stays-settle, stays-plan, stays-adopted, stays-installed}
+use Rattle.install_laws.proofs.Worlds.{Stays, stays-same, stays-both, stays-event, stays-settle, stays-plan, stays-adopted, stays-asked, stays-installed}
 
 -- an outcome, where there is one, keeps the world
 abbrev StaysIn : SessionState → Option Outcome → Type 0
@@ -55,9 +55,9 @@ install_now-stays s l tries =
 
 install-stays : (s : SessionState) (tries : ℕ) (o : Option LastRoutes) → StaysIn s (Some (install s tries o))
 install-stays s tries None = stays-same s.world
-install-stays s tries (Some l) = by (not (is_idle s.world.links)) (not (may_adopt s.world l.routes))
+install-stays s tries (Some l) = by (not (is_idle s.world.links)) (not (may_install s.world l))
   where
-    by : (busy other : Bool) → StaysIn s (Some (if busy then says_only s (InstallRefused Busy ∷ []) else if other then says_only s (InstallRefused (adopt_cause s.world) ∷ []) else install_now s l tries))
+    by : (busy other : Bool) → StaysIn s (Some (if busy then says_only s (InstallRefused Busy ∷ []) else if other then says_only s (InstallRefused (refusal_cause s.world l) ∷ []) else install_now s l tries))
     by true other = stays-same s.world
     by false true = stays-same s.world
     by false false = install_now-stays s l tries
@@ -73,7 +73,7 @@ map-stays s host = by (is_idle s.world.links)
     by true = tt
     by false = stays-same s.world
 
-outcome-stays : (n : Network) (s : SessionState) (c : Command) → IsCommandOf n c → StaysIn s (outcome s c)
+pub outcome-stays : (n : Network) (s : SessionState) (c : Command) → IsCommandOf n c → StaysIn s (outcome s c)
 outcome-stays n s (Walk host walk) of_n = stays-same s.world
 outcome-stays n s (Map host depth tries) of_n = map-stays s host
 outcome-stays n s (Circuit host depth) of_n = tt
@@ -92,7 +92,16 @@ outcome-stays n s Finish of_n = stays-same s.world
 outcome-stays n s (Duo e) of_n = stays-same s.world
 
 session-stays : (n : Network) (s next : SessionState) → Stays s.world next.world → IsSessionOf n s → IsSessionOf n next
-session-stays n s next k is = record { fabric = k.fabric ∙ is.fabric; world = k.world is.world; byte_flips = k.bytes is.byte_flips }
+session-stays n s next k is = record {
+  history = k.cables.history is.history;
+  first = k.cables.past 0 (omega arith) ∙ is.first;
+  world = k.world is.world;
+  byte_flips = k.bytes is.byte_flips;
+}
+
+-- a map that is made
+pub mapped-stays : (w after : WorldState) (host tries : ℕ) (j : List Entry) → after ≡ (log.asks w.links.cables.changes host tries (map (λ (e : Entry). e.walk) j) w).world → Stays w after
+mapped-stays w after host tries j led = subst (Stays w) (sym led) (stays-asked w.links.cables.changes host tries (map (λ (e : Entry). e.walk) j) w)
 
 -- where a map isn't refused, the links are idle
 not_busy : (s : SessionState) (host : ℕ) → map_refused s host ≡ None → is_idle s.world.links ≡ true
@@ -103,34 +112,39 @@ not_busy s host e = by (is_idle s.world.links) refl e
     by false p q = cc
 
 -- the mapper of a session can map
-pub can-map : (n : Network) (s : SessionState) (host depth : ℕ) → IsFabric n → host < length n.hosts → depth ≤ 65 → IsSessionOf n s → is_idle s.world.links ≡ true → CanMap host depth s.world
-can-map n s host depth f there low is idle = record {
-  fabric = subst IsFabric (sym is.fabric) f;
+pub can-map : (n : Network) (s : SessionState) (host depth : ℕ) → host < length n.hosts → depth ≤ 65 → IsSessionOf n s → is_idle s.world.links ≡ true → CanMap host depth s.world
+can-map n s host depth there low is idle = record {
+  history = is.history;
   world = is.world;
   idle = idle;
-  is_host = subst (λ k. host < k) (sym (is.world.hosts ∙ ap (λ (x : Network). length x.hosts) is.fabric)) there;
+  is_host = subst (λ k. host < k) (sym (is.world.hosts ∙ ap (λ (x : Network). length x.hosts) is.first)) there;
   byte_flips = is.byte_flips;
   shallow = low;
 }
 
-pub can-map-now : (n : Network) (s : SessionState) (host depth tries : ℕ) → IsFabric n → IsCommandOf n (Map host depth tries) → IsSessionOf n s → outcome s (Map host depth tries) ≡ None → CanMap host depth s.world
-can-map-now n s host depth tries f of_n is none = can-map n s host depth f of_n.0 of_n.1 is (not_busy s host none)
+pub can-map-now : (n : Network) (s : SessionState) (host depth tries : ℕ) → IsCommandOf n (Map host depth tries) → IsSessionOf n s → outcome s (Map host depth tries) ≡ None → CanMap host depth s.world
+can-map-now n s host depth tries of_n is none = can-map n s host depth of_n.0 of_n.1 is (not_busy s host none)
 
-pub does-stays : {s next : SessionState} {c : Command} {out : List Piece} → (n : Network) → IsFabric n → IsCommandOf n c → IsSessionOf n s → Does s c out next → IsSessionOf n next
-does-stays {s = s} {next = next} {c = c} n f of_n is (determined e) = session-stays n s next (subst (StaysIn s) e (outcome-stays n s c of_n)) is
-does-stays {s = s} {next = next} n f of_n is (maps {host = host} {depth = depth} {tries = tries} after j m words none made printed left) =
-    let keeps = mapping_keeps host depth tries s.world after j m words (can-map-now n s host depth tries f of_n is none) made in
-    subst (IsSessionOf n) (sym left) (record { fabric = keeps.0.fabric ∙ is.fabric; world = keeps.1.world; byte_flips = keeps.1.byte_flips })
-does-stays {s = s} {next = next} n f of_n is (circuits told left) = subst (IsSessionOf n) (sym left) is
-does-stays {s = s} {next = next} n f of_n is (routes l found complete are printed left) =
-    subst (IsSessionOf n) (sym left) (record { fabric = is.fabric; world = is.world; byte_flips = is.byte_flips })
+-- a session after another over the same world
+same-world : (s next : SessionState) → next.world ≡ s.world → Stays s.world next.world
+same-world s next same = subst (Stays s.world) (sym same) (stays-same s.world)
 
-runs-stay : {s last : SessionState} {cs : List Command} {out : List Piece} → (n : Network) → IsFabric n → AllByRecursion (IsCommandOf n) cs → IsSessionOf n s → Runs s cs out last → IsSessionOf n last
-runs-stay n f all is ended = is
-runs-stay n f all is (goes_on d r e) = runs-stay n f all.1 (does-stays n f all.0 is d) r
+pub does-keep : {s next : SessionState} {c : Command} {out : List Piece} → (n : Network) → IsCommandOf n c → Does s c out next → Stays s.world next.world
+does-keep {s = s} {c = c} n of_n (determined e) = subst (StaysIn s) e (outcome-stays n s c of_n)
+does-keep {s = s} n of_n (maps {host = host} {tries = tries} after j m words none made printed left) =
+    subst (λ (x : SessionState). Stays s.world x.world) (sym left) (mapped-stays s.world after host tries j made.led)
+does-keep {s = s} {next = next} n of_n (circuits told left) = same-world s next (ap (λ (x : SessionState). x.world) left)
+does-keep {s = s} {next = next} n of_n (routes l found complete are printed left) = same-world s next (ap (λ (x : SessionState). x.world) left)
 
-pub new-session : (n : Network) → IsSessionOf n (new_session n)
-new-session n = record { fabric = (first_stands n 0).0; world = new-world n; byte_flips = tt }
+pub does-stays : {s next : SessionState} {c : Command} {out : List Piece} → (n : Network) → IsCommandOf n c → IsSessionOf n s → Does s c out next → IsSessionOf n next
+does-stays {s = s} {next = next} n of_n is d = session-stays n s next (does-keep n of_n d) is
+
+runs-stay : {s last : SessionState} {cs : List Command} {out : List Piece} → (n : Network) → AllByRecursion (IsCommandOf n) cs → IsSessionOf n s → Runs s cs out last → IsSessionOf n last
+runs-stay n all is ended = is
+runs-stay n all is (goes_on d r e) = runs-stay n all.1 (does-stays n all.0 is d) r
+
+pub new-session : (n : Network) → IsFabric n → IsSessionOf n (new_session n)
+new-session n f = let k = new-cables n f in record { history = k.history; first = k.first; world = new-world n; byte_flips = tt }
 
 pub run_keeps_world : RunKeepsWorld
-run_keeps_world n commands out last f all r = runs-stay n f all (new-session n) r
+run_keeps_world n commands out last f all r = runs-stay n all (new-session n f) r

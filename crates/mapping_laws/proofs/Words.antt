@@ -1,5 +1,6 @@
 -- Wherever a map can be made there is a mapping: its journal has a map, and one of the words of a map holds.
 use Rattle.std.proofs.Common.{ℕ, zero, suc, List, ◌⊎◌, inl, inr, refl, arith}
+use Rattle.cable_history.proofs.Now.{now_is_fabric}
 use Rattle.journal_defs.specs.declared.entry.Entry.{Entry}
 use Rattle.journal_defs.specs.Growth.{IsEndedByDepth, IsEndedAtLimit, IsClosed}
 use Rattle.map_defs.specs.Core.{core_of}
@@ -26,9 +27,10 @@ called host depth j (suc k) (inl e) (inl all) = (Doubtful (suc k), doubted (with
 
 pub mapping_exists : MappingExists
 mapping_exists host depth tries w can =
+    let f = now_is_fabric w.links.cables can.history in
     let a = asked_journal_exists host depth tries w can in
-    let q = quotient_exists (fabric_of w) host a.journal can.fabric a.found in
-    let word = called host depth a.journal a.drowned a.grown.ended (closed_is_decided (fabric_of w) host a.journal can.fabric a.found) in
+    let q = quotient_exists (fabric_of w) host a.journal f a.found in
+    let word = called host depth a.journal a.drowned a.grown.ended (closed_is_decided (fabric_of w) host a.journal f a.found) in
     record {
       after = a.after;
       journal = a.journal;

@@ -15,9 +15,9 @@ pub record HasAskedJournal (host depth tries : ℕ) (w : WorldState) : Type 0 wh
   pub journal : List Entry
   pub drowned : ℕ
   pub after : WorldState
-  pub asked : (log.asks host tries (map (λ e. e.walk) journal) w).value
+  pub asked : (log.asks w.links.cables.changes host tries (map (λ e. e.walk) journal) w).value
       ≡ record { entries = journal; drowned = drowned }
-  pub led : after ≡ (log.asks host tries (map (λ e. e.walk) journal) w).world
+  pub led : after ≡ (log.asks w.links.cables.changes host tries (map (λ e. e.walk) journal) w).world
   pub grown : IsGrown host depth journal
   pub found : IsTrueWhereFound (fabric_of w) host journal
 

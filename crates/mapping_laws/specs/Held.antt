@@ -1,7 +1,9 @@
--- What a session of a run holds: a right map where it says complete, and right routes.
-use Rattle.std.specs.Prelude.{◌≡◌, List, Some}
+-- What a session of a run holds: a map that was right where it says complete, and routes that were.
+use Rattle.std.specs.Prelude.{◌≡◌, ℕ, ◌≤◌, List, Some}
 use Rattle.std.specs.List.{AllByRecursion}
 use Rattle.net_defs.specs.Network.{Network, IsFabric}
+use Rattle.net_defs.specs.declared.route.Route.{Route}
+use Rattle.cable_history.specs.History.{CableHistory, fabric_at}
 use Rattle.map_defs.specs.NetMap.{IsMap, IsConnected}
 use Rattle.map_defs.specs.Sameness.{IsMapOfPart}
 use Rattle.map_laws.specs.RouteSets.{AreRightRoutes}
@@ -18,14 +20,27 @@ pub record IsRightMap (n : Network) (l : LastMap) : Type 0 where
   pub right : IsMapOfPart n l.mapper l.made
   pub connected : IsConnected l.made
 
--- A session's last map is right where it says complete; its last routes lead to their hosts, join each two of them,
--- and leave no cycle of dependencies in the fabric; and so do the routes of the adopted set.
-pub record HoldsRight (n : Network) (s : SessionState) : Type 0 where
-  pub complete : (l : LastMap) → complete_map s.last_map ≡ Some l → IsRightMap n l
-  pub routes : (l : LastRoutes) → s.last_routes ≡ Some l → AreRightRoutes n l.mapper l.routes
-  pub adopted : (a : Adoption) → s.world.adopted ≡ Some a → AreRightRoutes n a.mapper a.routes
+-- A map was right in the fabric as it stood when it began.
+pub record WasRightMap (h : CableHistory) (l : LastMap) : Type 0 where
+  pub past : l.began ≤ h.changes
+  pub right : IsRightMap (fabric_at h l.began) l
+
+-- Routes were right in the fabric as it stood after so many changes.
+pub record WereRightRoutes (h : CableHistory) (began mapper : ℕ) (routes : List Route) : Type 0 where
+  pub past : began ≤ h.changes
+  pub right : AreRightRoutes (fabric_at h began) mapper routes
+
+-- A session's last map was right where it says complete; its last routes led to their hosts, joined each two of them,
+-- and left no cycle of dependencies in the fabric as it stood when their map began; and so did the routes of the
+-- adopted set in the fabric as it stood at the adoption.
+pub record HoldsRight (s : SessionState) : Type 0 where
+  pub complete : (l : LastMap) → complete_map s.last_map ≡ Some l → WasRightMap s.world.links.cables l
+  pub routes : (l : LastRoutes) → s.last_routes ≡ Some l
+      → WereRightRoutes s.world.links.cables l.began l.mapper l.routes
+  pub adopted : (a : Adoption) → s.world.adopted ≡ Some a
+      → WereRightRoutes s.world.links.cables a.at a.mapper a.routes
 
 -- every run of such commands ends in such a session
 abbrev pub RunHoldsRight : Type 0
 RunHoldsRight = (n : Network) (commands : List Command) (out : List Piece) (last : SessionState) → IsFabric n
-    → AllByRecursion (IsCommandOf n) commands → IsRun n commands out last → HoldsRight n last
+    → AllByRecursion (IsCommandOf n) commands → IsRun n commands out last → HoldsRight last

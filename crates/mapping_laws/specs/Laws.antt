@@ -1,7 +1,7 @@
 -- What holds of every mapping over the world of a fabric: whatever it found is there, and a map that it calls
 -- complete is right.
-use Rattle.std.specs.Prelude.{◌≡◌, ℕ, ◌<◌, ◌≤◌, true, List}
-use Rattle.net_defs.specs.Network.{IsFabric}
+use Rattle.std.specs.Prelude.{◌≡◌, ◌⊎◌, ℕ, ◌<◌, ◌≤◌, true, List}
+use Rattle.cable_history.specs.History.{IsHistory}
 use Rattle.link_defs.specs.Links.{is_idle}
 use Rattle.journal_defs.specs.declared.entry.Entry.{Entry}
 use Rattle.journal_defs.specs.Truth.{IsTrueJournal, IsTrueWhereFound}
@@ -17,18 +17,18 @@ use Rattle.run_defs.specs.declared.line.MapWords.TheVariants.{Complete, Doubtful
 use Rattle.run_defs.specs.Mapped.{IsMapped}
 use Rattle.run_defs.specs.Headline.{IsQuiet}
 
--- What a mapping is made over: the world of a fabric, with idle links, in which the mapper is a host, and each
--- planned flip has a pattern of eight bits. To a depth of 65 cables a walk has at most 64 turns, as many as a probe
--- carries.
+-- What a mapping is made over: a world whose cables are a history, with idle links, in which the mapper is a host, and
+-- each planned flip has a pattern of eight bits. To a depth of 65 cables a walk has at most 64 turns, as many as a
+-- probe carries.
 pub record CanMap (host depth : ℕ) (w : WorldState) : Type 0 where
-  pub fabric : IsFabric (fabric_of w)
+  pub history : IsHistory w.links.cables
   pub world : IsWorld w
   pub idle : is_idle w.links ≡ true
   pub is_host : host < host_count w
   pub byte_flips : HasByteFaults w
   pub shallow : depth ≤ 65
 
--- Whatever a mapping found is there in the fabric, also where probes of it were lost.
+-- Whatever a mapping found is there in the fabric as it stood before, also where probes of it were lost.
 abbrev pub FoundIsThere : Type 0
 FoundIsThere =
     (host depth tries : ℕ) (before after : WorldState) (j : List Entry) (m : NetMap) (words : MapWords)
@@ -54,7 +54,8 @@ MadeMapIsConnected =
     (host depth tries : ℕ) (before after : WorldState) (j : List Entry) (m : NetMap) (words : MapWords)
     → IsMapped host depth tries before after j m words → IsConnected m
 
--- A map that is called complete is the mapper's part of the fabric, the ports of each switch counted from elsewhere.
+-- A map that is called complete is the mapper's part of the fabric as it stood before, the ports of each switch counted
+-- from elsewhere.
 abbrev pub MadeMapIsRight : Type 0
 MadeMapIsRight =
     (host depth tries : ℕ) (before after : WorldState) (j : List Entry) (m : NetMap)
@@ -76,9 +77,10 @@ DeepMapIsComplete =
     → 1 ≤ tries → tries ≤ 8 → enough_depth (fabric_of before) host ≤ depth → words ≡ Complete
 
 -- A map that is called doubtful has its cause: where injections are left after it, a planned fault lost, held or
--- flipped a packet of it.
+-- flipped a packet of it, or a cable went.
 abbrev pub DoubtfulWasHarmed : Type 0
 DoubtfulWasHarmed =
     (host depth tries drowned : ℕ) (before after : WorldState) (j : List Entry) (m : NetMap)
     → CanMap host depth before → IsMapped host depth tries before after j m (Doubtful drowned)
-    → 1 ≤ tries → after.injected < last_count → before.harmed < after.harmed
+    → 1 ≤ tries → after.injected < last_count
+    → (before.harmed < after.harmed) ⊎ (before.links.cables.changes < after.links.cables.changes)

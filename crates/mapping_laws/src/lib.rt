@@ -5,14 +5,14 @@
 //!
 //! | file of `specs/` | says |
 //! |---|---|
-//! | `Laws` | what a mapping found is there; a map called complete is right; a deep map of a quiet fabric is called so; one called doubtful has its cause |
+//! | `Laws` | what a mapping found was there; complete maps are right, deep ones complete, doubtful ones have a cause |
 //! | `Asked` | wherever a map can be made, a journal of asks that has grown to its depth exists, and so a mapping |
-//! | `Runs` | a run keeps a world of its fabric, and each map that it prints under the word complete is right |
-//! | `Circuits` | a circuit map that a run prints is right, where deep enough the core; there always is one |
+//! | `Runs` | a run keeps a world that began with its fabric, and each map that it prints as complete was right |
+//! | `Circuits` | a circuit map that a run prints was right, where deep enough the core; there always is one |
 //! | `Maps` | a journal whose found answers are true has a least node for each class of nodes, and a map |
 //! | `Trees` | the asking of a tree ends, and a whole tree has a circuit map |
 //! | `Routes` | a connected map has the least legal route between each two hosts |
-//! | `Held` | a map that a run holds under complete is right and connected; routes held or adopted are right |
+//! | `Held` | a map that a run holds as complete was right and connected; routes held or adopted were right |
 #![tactic(auto)]
 
 mod existence;

@@ -5,8 +5,8 @@ ghost use Rattle.mapping_laws.specs.Laws.{MadeMapIsRight, MappingKeeps, DeepMapI
 ghost use Rattle.mapping_laws.specs.Laws.{DoubtfulWasHarmed};
 ghost use Rattle.mapping_laws.specs.Asked.{AskedJournalExists, MappingExists};
 
-/// Whatever a mapping found is there, its map is a map and connected, and where it is called complete it is the
-/// mapper's part of the fabric.
+/// Whatever a mapping found was there when it began, its map is a map and connected, and where it is called complete it
+/// is the mapper's part of the fabric as it stood then.
 pub fn made_maps()
     ensures found { FoundIsThere }
     ensures undrowned { UndrownedIsTrue }
@@ -25,7 +25,7 @@ pub fn deep_maps()
     ensures { DeepMapIsComplete }
 {}
 
-/// A map is called doubtful only where a planned fault met a packet of it, while injections are left.
+/// A map is called doubtful only where a planned fault met a packet of it, or a cable went, while injections are left.
 pub fn doubtful_maps()
     ensures { DoubtfulWasHarmed }
 {}

@@ -5,7 +5,7 @@ use Rattle.world_defs.specs.Node.{port_at}
 use Rattle.world_defs.specs.World.{WorldState, host_count, node_at, client_at}
 use Rattle.world_defs.specs.Sound.{AreOwned}
 use Rattle.act_defs.specs.Acts.{IsReached}
-use Rattle.table_laws.proofs.Dependencies.{reached-of}
+use Rattle.act_defs.proofs.Cables.{reached-cables}
 use Rattle.owner_laws.proofs.Owners.{always-owned}
 use Rattle.message_laws.proofs.Windows.{IsWindowed, reached-windowed}
 use Rattle.message_laws.proofs.Taken.{reached-world}
@@ -14,7 +14,7 @@ use Rattle.message_laws.proofs.Routed.{route-there}
 
 pub reached-count : (n : Network) (w : WorldState) → IsReached n w → host_count w ≡ length n.hosts
 reached-count n w is =
-    (reached-world n w is).hosts ∙ ap (λ m. length m.hosts) (reached-of n w is).net
+    (reached-world n w is).hosts ∙ ap length (reached-cables n w is).hosts
 
 pub reached-known : (n : Network) (w : WorldState) (h : ℕ) → IsReached n w → h < length n.hosts → IsKnown (node_at w h) (client_at w h) (host_count w)
 reached-known n w h is low =

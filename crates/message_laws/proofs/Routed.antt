@@ -3,11 +3,16 @@ use Rattle.std.proofs.Common.{◌≡◌, ◌<◌, ℕ, Bool, true, false, List, 
 use Rattle.std.specs.Prelude.{find, option_and_then}
 use Rattle.std.specs.List.{AllByRecursion}
 use Rattle.std.proofs.lemmas.Bool.Decides.{nat_tests}
+use Rattle.net_defs.specs.declared.place.Place.TheVariants.{Host as AtHost}
+use Rattle.net_defs.specs.declared.route.Route.{Route}
 use Rattle.net_defs.specs.Network.{Network}
+use Rattle.net_defs.specs.Route.{place}
+use Rattle.cable_history.specs.History.{fabric_at}
 use Rattle.mapping_defs.specs.Mapping.{RouteEntry}
 use Rattle.world_defs.specs.Table.{Adoption, ActiveTable, table_route, entries_from}
 use Rattle.world_defs.specs.World.{WorldState, node_at}
 use Rattle.act_defs.specs.Acts.{IsReached}
+use Rattle.act_defs.proofs.Cables.{reached-cables}
 use Rattle.table_laws.specs.Set.{IsActive}
 use Rattle.table_laws.proofs.Sets.{entries-all}
 use Rattle.table_laws.proofs.Steps.{hosts-active}
@@ -30,7 +35,10 @@ route-there n w h dest is e = by (node_at w h).table.active refl (hosts-active n
     of_set None t a active d = absurd active
     of_set (Some a) t same active d =
         let lead = (adopted-adoptable n w a is same).1.lead in
-        let below : AllByRecursion (λ e. e.to < length n.hosts) (entries_from a.routes h) = entries-all _ (λ e. e.to < length n.hosts) h a.routes (λ r from p. place-there n r.from r.to r.walk is.fabric p) lead in
+        let k = reached-cables n w is in
+        let past = k.history.fabrics a.at in
+        let there = λ (r : Route) (p : place (fabric_at w.links.cables a.at) r.from r.walk ≡ AtHost r.to). subst (λ hs. r.to < length hs) k.hosts (place-there (fabric_at w.links.cables a.at) r.from r.to r.walk past p) in
+        let below : AllByRecursion (λ e. e.to < length n.hosts) (entries_from a.routes h) = entries-all _ (λ e. e.to < length n.hosts) h a.routes (λ r from p. there r p) lead in
         found-below (length n.hosts) dest t.entries (subst (AllByRecursion (λ e. e.to < length n.hosts)) (sym active.entries) below) d
 
     by : (o : Option ActiveTable) → (node_at w h).table.active ≡ o → IfSome o (IsActive w.adopted h) → is_none (option_and_then (λ a. option_map (λ e. e.walk) (find (λ e. nat_eq e.to dest) a.entries)) o) ≡ false → dest < length n.hosts

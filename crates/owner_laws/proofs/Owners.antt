@@ -63,7 +63,7 @@ change-owned (Change.links k) world is = record { each = is.each }
 change-owned (Change.drops packet why d e f) world is = record { each = is.each }
 change-owned {w = w} (Change.arrives packet h d e f g) world is = one-owned w _ h (hear h (host_count w) (node_at w h) packet.wire).1 refl refl (hear-owned h (host_count w) (node_at w h) packet.wire) is
 change-owned {w = w} (Change.host {h = h} {m = m} k) world is = one-owned w (with_node w h m) h m refl refl (node-same (node_at w h) m (host-ports k)) is
-change-owned {w = w} (Change.injects {h = h} c out d e f g) world is = one-owned w _ h (after_sending (node_at w h) out) (injection-nodes w h c out) (injection-clients w h c out) (after_sending-owned (node_at w h) out) is
+change-owned {w = w} (Change.injects {h = h} c out d e f g o) world is = one-owned w _ h (after_sending (node_at w h) out) (injection-nodes w h c out) (injection-clients w h c out) (after_sending-owned (node_at w h) out) is
 change-owned {w = w} (Change.calls {h = h} {port = port} {call = call} k) world is = called-owned w h port call world is (call-owned (call_view k) (is.each h port))
 
 -- every act, and all acts

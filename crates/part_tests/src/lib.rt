@@ -1,9 +1,10 @@
-//! Tests of calls of connections, ports, installations, epochs, streams, ledgers and hosts that restart, which no worked
-//! text reaches, and worked examples of the bytes of packets. Nothing stands on it.
+//! Tests of calls of connections, ports, cables, installations, epochs, streams, ledgers and hosts that restart, which no
+//! worked text reaches, and worked examples of the bytes of packets. Nothing stands on it.
 //!
 //! | module | has |
 //! |---|---|
 //! | `examples` | the bytes of frames, probes and tables |
+//! | `cables` | a cable that is taken away, and another where it was |
 //! | `connections` | a connection at its last number, and a message in two fragments |
 //! | `installing` | what an installation awaits first |
 //! | `epochs` | an epoch that hosts give up, and the next |
@@ -16,6 +17,8 @@
 //! | `pieces` | the same, of readers and writers that move a byte a call, and then none, or fail |
 #![tactic(auto)]
 
+#[cfg(test)]
+mod cables;
 #[cfg(test)]
 mod connections;
 #[cfg(test)]

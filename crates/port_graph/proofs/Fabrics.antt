@@ -1,14 +1,13 @@
 -- Names and growth, in the words of the tables that a fabric keeps.
-use Rattle.std.proofs.Common.{◌≡◌, ◌<◌, ℕ, suc, ◌+◌, List, [], ◌∷◌, ◌++◌, Bool, true, false, ◌||◌, not, cond, length, map, nat_lt, Option, Some, None, Result, Ok, Err, is_err, OnOk, is_some, option_map, refl, ap, sym, ◌∙◌, subst, true≢false, arith}
+use Rattle.std.proofs.Common.{◌≡◌, ℕ, suc, ◌+◌, List, [], ◌∷◌, ◌++◌, Bool, true, false, ◌||◌, not, cond, length, map, nat_lt, Option, Some, None, Result, Ok, Err, is_err, OnOk, is_some, option_map, refl, ap, sym, ◌∙◌, subst, true≢false, arith}
 use Rattle.std.specs.Prelude.{position, bytes_eq}
 use Rattle.std.specs.List.{list_any, prefix_len}
 use Rattle.std.proofs.lemmas.Bool.Decides.{nat_tests}
 use Rattle.std.proofs.lemmas.List.{map-append}
 use Rattle.std.proofs.lemmas.List.Folds.{list_any-append}
-use Rattle.net_defs.specs.declared.vertex.Vertex.{Vertex}
 use Rattle.net_defs.specs.declared.vertex.Vertex.TheVariants.{Host, Switch}
 use Rattle.net_defs.specs.declared.vertex.Cable.{Cable}
-use Rattle.net_defs.specs.Network.{Network, NamedSwitch, names}
+use Rattle.net_defs.specs.Network.{Network, NamedSwitch}
 use Rattle.net_defs.specs.Building.{taken, vertex_named, first_of_two}
 use Rattle.port_graph.specs.Named.{network_of}
 use Rattle.port_graph.proofs.Naming.{position-map}

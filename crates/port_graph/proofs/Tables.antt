@@ -1,5 +1,5 @@
 -- The table of far ends: filled for the first cable, and after one more.
-use Rattle.std.proofs.Common.{◌≡◌, ◌≢◌, ◌<◌, ◌≤◌, ℕ, zero, suc, ◌+◌, ◌-◌, ◌*◌, List, [], ◌∷◌, ◌++◌, Bool, true, false, ◌||◌, ◌&&◌, length, take, replicate, get_or, set, nat_eq, nat_lt, Option, Some, None, refl, ap, sym, ◌∙◌, subst, true≢false, arith, rules, if◌then◌else◌, get_or-set_other, get_or-set_same, ◌⊎◌, inl, inr, ⊎_elim, append-nil}
+use Rattle.std.proofs.Common.{◌≡◌, ◌≢◌, ◌<◌, ◌≤◌, ℕ, ◌-◌, List, [], ◌∷◌, ◌++◌, Bool, true, false, ◌||◌, length, take, replicate, get_or, set, nat_eq, Option, Some, None, refl, ap, sym, ◌∙◌, subst, true≢false, arith, get_or-set_other, get_or-set_same, ◌⊎◌, inl, inr, ⊎_elim, append-nil}
 use Rattle.std.proofs.Math.ListN.{length-set}
 use Rattle.std.proofs.Math.Seq.{take-nil}
 use Rattle.std.proofs.lemmas.Bool.{eqb-true, cases_lt}
@@ -11,7 +11,7 @@ use Rattle.net_defs.specs.declared.vertex.End.{End}
 use Rattle.net_defs.specs.declared.vertex.Cable.{Cable}
 use Rattle.net_defs.specs.Network.{far_end, same_end}
 use Rattle.net_defs.specs.Building.{first_of_two}
-use Rattle.net_defs.proofs.Ends.{both, far_end-push, same_end-true, same_end-refl, same_end-false}
+use Rattle.net_defs.proofs.Ends.{far_end-push, same_end-true, same_end-refl}
 use Rattle.port_graph.specs.Table.{is_possible, may_stand, place_of_port, place_of_end, entry, IsTableOf}
 
 -- two ends that a fabric may have stand at two places
@@ -63,7 +63,7 @@ resized-full table n e =
     zero-left : (m k : ℕ) → m ≤ k → m - k ≡ 0
     zero-left m k h = omega arith
 
-sizes : (table : List (Option End)) → (nat_eq (length table) 0 || nat_eq (length table) 1152) ≡ true → (length table ≡ 0) ⊎ (length table ≡ 1152)
+pub sizes : (table : List (Option End)) → (nat_eq (length table) 0 || nat_eq (length table) 1152) ≡ true → (length table ≡ 0) ⊎ (length table ≡ 1152)
 sizes table size = by (nat_eq (length table) 0) (nat_eq (length table) 1152) refl refl size
   where
     by : (s t : Bool) → nat_eq (length table) 0 ≡ s → nat_eq (length table) 1152 ≡ t → (s || t) ≡ true → (length table ≡ 0) ⊎ (length table ≡ 1152)
@@ -97,10 +97,10 @@ table-filled cs table full len l is e =
     )
 
 -- what a full table has at an end after a write at another, and at that one
-write_other : (table : List (Option End)) (d e : End) (v : Option End) → is_possible d ≡ true → is_possible e ≡ true → d ≢ e → get_or (set table (place_of_end d) v) (place_of_end e) None ≡ get_or table (place_of_end e) None
+pub write_other : (table : List (Option End)) (d e : End) (v : Option End) → is_possible d ≡ true → is_possible e ≡ true → d ≢ e → get_or (set table (place_of_end d) v) (place_of_end e) None ≡ get_or table (place_of_end e) None
 write_other table d e v i j differ = get_or-set_other table (place_of_end d) (place_of_end e) v None (λ same. differ (place_of_end-same d e i j (sym same)))
 
-write_same : (table : List (Option End)) (d : End) (v : Option End) → is_possible d ≡ true → length table ≡ 1152 → get_or (set table (place_of_end d) v) (place_of_end d) None ≡ v
+pub write_same : (table : List (Option End)) (d : End) (v : Option End) → is_possible d ≡ true → length table ≡ 1152 → get_or (set table (place_of_end d) v) (place_of_end d) None ≡ v
 write_same table d v i full = let lt : place_of_end d < length table = rw full (place_of_end-lt d i) in get_or-set_same table (place_of_end d) v None lt
 
 first_or_none : (o : Option End) → o ≡ first_of_two o None

@@ -1,3 +1,4 @@
 pub mod Named
+pub mod Removing
 pub mod Routes
 pub mod Table

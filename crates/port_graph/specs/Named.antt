@@ -1,10 +1,9 @@
 -- The entries of a map from names to numbers of ports, as a list of named vertices.
-use Rattle.std.specs.Prelude.{ℕ, Bool, List, map, position, Option, bytes_eq, Vec}
-use Rattle.std.specs.List.{list_any}
+use Rattle.std.specs.Prelude.{ℕ, List, map, Vec}
 use Rattle.std.specs.declared.hash.FoldHasher.{FoldHasher}
 use Rattle.std.specs.declared.hash.BuildHasherDefault.{BuildHasherDefault}
 use Rattle.std.specs.declared.alloc.Global.{Global}
-use Rattle.indexmap.specs.IndexMap.{IndexMap, keys}
+use Rattle.indexmap.specs.IndexMap.{IndexMap}
 use Rattle.net_defs.specs.declared.vertex.Cable.{Cable}
 use Rattle.net_defs.specs.Network.{NamedSwitch, Network}
 

@@ -7,8 +7,10 @@
 //! ```
 
 ghost use Rattle.std.specs.Prelude.{◌≡◌, ◌≢◌, ◌<◌, ◌++◌, ◌∷◌, [], length, true, slice_get, slice_index_or, None, OnOk};
-ghost use Rattle.std.specs.Prelude.{OnErr, nat_eq, ◌||◌};
-ghost use Rattle.net_defs.specs.Network.{far_end};
+ghost use Rattle.std.specs.Prelude.{OnErr, nat_eq, ◌||◌, position};
+ghost use Rattle.std.specs.List.{AllByRecursion};
+ghost use Rattle.net_defs.specs.Network.{Apart, ends_of, far_end};
+ghost use Rattle.port_graph.specs.Removing.{ends_at, without_end};
 ghost use Rattle.port_graph.specs.Table.{is_possible, place_of_end, entry};
 
 use net_defs::{Cable, End, Vertex};
@@ -91,6 +93,26 @@ impl Cabling {
         self.far[place_of(b)] = Some(a);
         Ok(())
     }
+
+    /// Takes away the first cable that ends there, if there is one. It takes no memory.
+    pub(crate) fn remove(&mut self, e: End)
+        requires apart { Apart (ends_of self.old) }
+        requires possible { AllByRecursion (λ d. is_possible d ≡ true) (ends_of self.old) }
+        ensures { self.new ≡ without_end self.old e }
+    {
+        if let Some(k) = first_at(&self.cables, e) {
+            let cable = self.cables.remove(k);
+            self.far[place_of(cable.a)] = None;
+            self.far[place_of(cable.b)] = None;
+        }
+    }
+}
+
+// The place of the first cable that ends there.
+fn first_at(cables: &[Cable], e: End) -> Option<usize>
+    ensures { result ≡ position (ends_at e) cables.now }
+{
+    cables.iter().position(|c| c.a == e || c.b == e)
 }
 
 // What the table has at a place.

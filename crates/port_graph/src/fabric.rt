@@ -1,4 +1,4 @@
-//! A fabric: reading it, growing it, walking over it.
+//! A fabric: reading it, growing it, taking cables out, walking over it.
 
 ghost use Rattle.std.specs.Prelude.{◌≡◌, ◌<◌, ◌≤◌, length, slice_get, IsTrue};
 ghost use Rattle.net_defs.specs.Network.{empty_network, far, has_port, has_vertex, ports_of, IsFabric};
@@ -6,6 +6,7 @@ ghost use Rattle.net_defs.specs.Building.{name_of, vertex_named};
 ghost use Rattle.net_defs.specs.Route.{IsEntered};
 
 mod growing;
+mod shrinking;
 mod walking;
 
 use crate::cabling::Cabling;

@@ -1,4 +1,5 @@
--- A map that was made has few vertices and few cables: its vertices are nodes of a journal, and its cables end at ports that stand once.
+-- A map that was made has few vertices and few cables: its vertices are nodes of a journal, and its cables end at ports
+-- that stand once.
 use Rattle.std.proofs.Common.{◌≡◌, ◌≢◌, ◌<◌, ◌≤◌, ◌+◌, ◌*◌, ℕ, suc, List, [], ◌∷◌, ◌++◌, map, length, Bool, true, false, sym, ap, ◌∙◌, refl, true≢false, arith, if◌then◌else◌, ◌⊎◌, inl, inr}
 use Rattle.std.specs.Prelude.{ℤ, pos, negsuc}
 use Rattle.std.specs.List.{AllByRecursion}

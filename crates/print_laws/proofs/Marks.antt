@@ -1,5 +1,5 @@
 -- A vertex of a right map is outside exactly where the vertex that it stands for is cut off from all hosts.
-use Rattle.std.proofs.Common.{◌≡◌, ◌≢◌, ◌<◌, ◌+◌, ◌⊎◌, inl, inr, ℕ, zero, suc, Bool, true, false, not, List, [], ◌∷◌, ◌++◌, map, length, Option, Some, None, refl, sym, ap, subst, ◌∙◌, arith, true≢false}
+use Rattle.std.proofs.Common.{◌≡◌, ◌≢◌, ◌<◌, ◌+◌, ◌⊎◌, inl, inr, ℕ, zero, suc, Bool, true, false, not, List, [], ◌∷◌, ◌++◌, length, Option, Some, None, refl, sym, ap, subst, ◌∙◌, arith, true≢false}
 use Rattle.std.specs.Prelude.{ℤ, pos, ◌+ℤ◌, ◌-ℤ◌, slice_get}
 use Rattle.std.specs.List.{AllByRecursion}
 use Rattle.std.proofs.lemmas.Int.{ints}
@@ -33,8 +33,11 @@ use Rattle.circ_defs.proofs.Sides.{part-step}
 use Rattle.circ_defs.proofs.Ways.{way-push, one-of-either}
 use Rattle.circ_map_laws.proofs.Ends.{IsEndOf, one-number, CabledBy, cabled-number, number-cabled, first-of, second-of}
 use Rattle.circ_map_laws.proofs.Sides.{EdgeOf, without-edge, edge-without, Joined, OutsideBy, outside-means, means-outside}
+use Rattle.cable_history.proofs.Now.{now_is_fabric}
+use Rattle.world_defs.specs.World.{fabric_of}
 use Rattle.run_defs.specs.declared.line.MapWords.TheVariants.{Complete}
 use Rattle.mapping_laws.proofs.Made.{made_map_is_map}
+use Rattle.mapping_laws.proofs.Sessions.{run_keeps_world}
 use Rattle.print_laws.specs.Marks.{OutsideIsCutOff, MarksAreRight}
 use Rattle.print_laws.proofs.Shown.{mapping-of}
 
@@ -411,4 +414,6 @@ marks_are_right n commands host m f p same v l =
     let a = mapping-of n commands host Complete m f p in
     let rules : IsMap m = made_map_is_map host a.depth a.tries a.before a.after a.journal m Complete a.can a.mapped in
     let cores : m.core ≡ core_of m = ap (λ (x : NetMap). x.core) a.mapped.marked ∙ sym (ap core_of a.mapped.marked) in
-    marked (is_outside m v) (slice_get m.core v) (IsCutOff n (same.image v)) (ap (λ cs. slice_get cs v) cores ∙ mark-at m v l) (outside_is_cut_off n host m f rules same v l)
+    let now : Network = fabric_of p.session.world in
+    let fair : IsFabric now = now_is_fabric p.session.world.links.cables (run_keeps_world n commands p.out p.session f p.over p.run).history in
+    marked (is_outside m v) (slice_get m.core v) (IsCutOff now (same.image v)) (ap (λ cs. slice_get cs v) cores ∙ mark-at m v l) (outside_is_cut_off now host m fair rules same v l)

@@ -1,17 +1,21 @@
 -- Each map among the pieces that commands print is read again.
-use Rattle.std.proofs.Common.{◌<◌, ℕ, Bool, true, false, not, List, [], ◌∷◌, ◌++◌, map, length, Option, Some, None, sym, ◌∙◌, subst, append_assoc, if◌then◌else◌}
+use Rattle.std.proofs.Common.{◌≡◌, ◌<◌, ℕ, Bool, true, false, not, List, [], ◌∷◌, ◌++◌, map, length, Option, Some, None, sym, ap, ◌∙◌, subst, append_assoc, if◌then◌else◌}
 use Rattle.std.specs.Prelude.{◌-◌}
 use Rattle.std.specs.List.{AllByRecursion}
 use Rattle.net_defs.specs.Network.{Network, IsFabric}
 use Rattle.link_defs.specs.Links.{is_idle}
 use Rattle.journal_defs.proofs.Members.{all-join}
+use Rattle.map_defs.specs.declared.vertex.MapVertex.{MapVertex}
+use Rattle.map_defs.specs.declared.vertex.MapVertex.TheVariants.{Host as HostVertex, Switch as SwitchVertex}
 use Rattle.map_defs.specs.NetMap.{NetMap}
+use Rattle.map_canon.specs.Printing.{IsOfFabric}
+use Rattle.cable_history.proofs.Now.{now_is_fabric}
 use Rattle.fabric_file.specs.Reading.{AreNamed}
 use Rattle.world_defs.specs.declared.event.Event.{Event}
 use Rattle.world_defs.specs.declared.event.Event.TheVariants.{Begin, Close, Provide, Send, Poll}
 use Rattle.world_defs.specs.declared.effect.Effect.{Effect}
 use Rattle.world_defs.specs.Node.{port_at}
-use Rattle.world_defs.specs.World.{WorldState, node_at, planned, adopted_by, may_adopt}
+use Rattle.world_defs.specs.World.{WorldState, fabric_of, node_at, planned, adopted_by}
 use Rattle.world_defs.specs.Step.{step}
 use Rattle.world_defs.specs.Logs as log
 use Rattle.world_defs.specs.Log.{Log}
@@ -28,7 +32,7 @@ use Rattle.run_defs.specs.Circuit.{IsCircuitTold}
 use Rattle.run_defs.specs.Circuit.IsCircuitTold.{whole, too_many_nodes}
 use Rattle.run_defs.specs.Output.{Piece, OneLine, MapLines, lines}
 use Rattle.run_defs.specs.Session.{SessionState, LastMap, LastRoutes, complete_map}
-use Rattle.run_defs.specs.Outcome.{Outcome, says_only, called, client_lines, event_of, stepped, step_or_idle, plan_made, fault_of, token_lines, install_done, install_now, install, table_line, map_refused, routes_refused, outcome, set_of, adopt_cause}
+use Rattle.run_defs.specs.Outcome.{Outcome, says_only, called, client_lines, event_of, stepped, step_or_idle, plan_made, fault_of, token_lines, install_done, install_now, install, table_line, map_refused, routes_refused, outcome, set_of, may_install, refusal_cause}
 use Rattle.run_defs.specs.Run.{Does, Runs, map_pieces, routes_lines}
 use Rattle.run_defs.specs.Run.Does.{determined, maps, circuits, routes}
 use Rattle.run_defs.specs.Run.Runs.{ended, goes_on}
@@ -73,9 +77,9 @@ done-read n s hosts r = (tt, lines-read n (map (table_line r.world) hosts))
 
 install-read : (n : Network) (s : SessionState) (tries : ℕ) (o : Option LastRoutes) → ReadIn n (Some (install s tries o))
 install-read n s tries None = (tt, tt)
-install-read n s tries (Some l) = by (not (is_idle s.world.links)) (not (may_adopt s.world l.routes))
+install-read n s tries (Some l) = by (not (is_idle s.world.links)) (not (may_install s.world l))
   where
-    by : (busy other : Bool) → ReadIn n (Some (if busy then says_only s (InstallRefused Busy ∷ []) else if other then says_only s (InstallRefused (adopt_cause s.world) ∷ []) else install_now s l tries))
+    by : (busy other : Bool) → ReadIn n (Some (if busy then says_only s (InstallRefused Busy ∷ []) else if other then says_only s (InstallRefused (refusal_cause s.world l) ∷ []) else install_now s l tries))
     by true other = (tt, tt)
     by false true = (tt, tt)
     by false false = done-read n s l.hosts (log.install (set_of s.world l) l.hosts tries (adopted_by s.world l.mapper l.routes))
@@ -115,25 +119,43 @@ map-read n l m (Doubtful drowned) is = (tt, (is, tt))
 map-read n l m IncompleteDepth is = (tt, (is, tt))
 map-read n l m IncompleteNodes is = (tt, tt)
 
-circuit-read : (n : Network) (host depth : ℕ) (out : List Piece) → IsFabric n → AreNamed n → host < length n.hosts → IsCircuitTold n host depth out → AreRead n out
-circuit-read n host depth out f named there (whole j m growing kept is printed) =
-    subst (AreRead n) (sym printed) (tt, (printable_is_read_again n m f named (circuit_map_is_printable n host depth j m f there kept is), tt))
-circuit-read n host depth out f named there (too_many_nodes j growing passed printed) = subst (AreRead n) (sym printed) (tt, tt)
+-- what is of the hosts of a fabric is of any with the same hosts
+vertex-of : (n k : Network) (v : MapVertex) → n.hosts ≡ k.hosts → IsOfFabric n v → IsOfFabric k v
+vertex-of n k (HostVertex a) same is = subst (λ hs. a < length hs) same is
+vertex-of n k (SwitchVertex s) same is = is
+
+vertices-of : (n k : Network) (vs : List MapVertex) → n.hosts ≡ k.hosts → AllByRecursion (IsOfFabric n) vs → AllByRecursion (IsOfFabric k) vs
+vertices-of n k [] same all = tt
+vertices-of n k (v ∷ vs) same all = (vertex-of n k v same all.0, vertices-of n k vs same all.1)
+
+printable-of : (n k : Network) (m : NetMap) → n.hosts ≡ k.hosts → IsPrintable n m → IsPrintable k m
+printable-of n k m same is = record { rules = is.rules; hosts = vertices-of n k m.vertices same is.hosts; few_vertices = is.few_vertices; few_cables = is.few_cables }
+
+-- the hosts of a session over a fabric are those of the fabric
+session-hosts : (n : Network) (s : SessionState) → IsSessionOf n s → (fabric_of s.world).hosts ≡ n.hosts
+session-hosts n s is = ap (λ (x : Network). x.hosts) is.first
+
+circuit-read : (n k : Network) (host depth : ℕ) (out : List Piece) → IsFabric n → IsFabric k → k.hosts ≡ n.hosts → AreNamed n → host < length k.hosts → IsCircuitTold k host depth out → AreRead n out
+circuit-read n k host depth out f fair same named there (whole j m growing kept is printed) =
+    subst (AreRead n) (sym printed) (tt, (printable_is_read_again n m f named (printable-of k n m same (circuit_map_is_printable k host depth j m fair there kept is)), tt))
+circuit-read n k host depth out f fair same named there (too_many_nodes j growing passed printed) = subst (AreRead n) (sym printed) (tt, tt)
 
 does-read : {s next : SessionState} {c : Command} {out : List Piece} → (n : Network) → IsFabric n → AreNamed n → IsCommandOf n c → IsSessionOf n s → Does s c out next → AreRead n out
 does-read {s = s} {c = c} n f named of_n is (determined e) = subst (ReadIn n) e (outcome-read n s c)
 does-read {s = s} n f named of_n is (maps {host = host} {depth = depth} {tries = tries} after j m words none made printed left) =
-    let can = can-map-now n s host depth tries f of_n is none in
+    let can = can-map-now n s host depth tries of_n is none in
     let printable = made_map_is_printable host depth tries s.world after j m words can made in
-    let read = printable_is_read_again n m f named (subst (λ k. IsPrintable k m) is.fabric printable) in
+    let read = printable_is_read_again n m f named (printable-of (fabric_of s.world) n m (session-hosts n s is) printable) in
     subst (AreRead n) (sym printed) (map-read n (MapLine host words (length j) (after.injected - s.world.injected)) m words read)
-does-read {s = s} {out = out} n f named of_n is (circuits {host = host} {depth = depth} told left) = circuit-read n host depth out f named of_n (subst (λ k. IsCircuitTold k host depth out) is.fabric told)
+does-read {s = s} {out = out} n f named of_n is (circuits {host = host} {depth = depth} told left) =
+    let same = session-hosts n s is in
+    circuit-read n (fabric_of s.world) host depth out f (now_is_fabric s.world.links.cables is.history) same named (subst (λ hs. host < length hs) (sym same) of_n) told
 does-read {s = s} n f named of_n is (routes l found complete are printed left) = subst (AreRead n) (sym printed) (lines-read n (routes_lines l.made found))
 
 runs-read : {s last : SessionState} {cs : List Command} {out : List Piece} → (n : Network) → IsFabric n → AreNamed n → AllByRecursion (IsCommandOf n) cs → IsSessionOf n s → Runs s cs out last → AreRead n out
 runs-read n f named all is ended = tt
 runs-read n f named all is (goes_on {out = out} {rest = rest} d r e) =
-    subst (AreRead n) (sym e) (all-join (IsReadPiece n) out rest (does-read n f named all.0 is d) (runs-read n f named all.1 (does-stays n f all.0 is d) r))
+    subst (AreRead n) (sym e) (all-join (IsReadPiece n) out rest (does-read n f named all.0 is d) (runs-read n f named all.1 (does-stays n all.0 is d) r))
 
 -- a map that stands among pieces
 stands-read : (n : Network) (m : NetMap) (before behind : List Piece) → AreRead n (before ++ MapLines m ∷ behind) → IsReadAgain n m
@@ -141,7 +163,7 @@ stands-read n m [] behind all = all.0
 stands-read n m (p ∷ before) behind all = stands-read n m before behind all.1
 
 pub maps_of_runs_read_back : MapsOfRunsReadBack
-maps_of_runs_read_back n commands out last before behind m f named all r e = stands-read n m before behind (subst (AreRead n) e (runs-read n f named all (new-session n) r))
+maps_of_runs_read_back n commands out last before behind m f named all r e = stands-read n m before behind (subst (AreRead n) e (runs-read n f named all (new-session n f) r))
 
 pub complete_maps_read_back : CompleteMapsReadBack
 complete_maps_read_back n commands out last mapper m f named all r p =

@@ -2,6 +2,7 @@
 use Rattle.std.proofs.Common.{◌≡◌, ◌<◌, length, sym, ap, subst, arith}
 use Rattle.net_defs.specs.Network.{Network}
 use Rattle.map_defs.specs.NetMap.{NetMap}
+use Rattle.cable_history.proofs.Now.{now_is_fabric}
 use Rattle.map_canon.specs.Printing.{AreOfFabric}
 use Rattle.map_canon.proofs.OfFabric.{each-of_fabric}
 use Rattle.map_canon.proofs.ReadBack.{map-read-back}
@@ -26,7 +27,7 @@ made_map_is_printable host depth tries before after j m words can made =
     let same : length m.vertices ≡ length k.vertices = ap (λ (z : NetMap). length z.vertices) made.marked in
     record {
       rules = rules;
-      hosts = subst (AreOfFabric n) (sym made.marked) (hosts-of_fabric n host j k can.fabric there found made.quotient);
+      hosts = subst (AreOfFabric n) (sym made.marked) (hosts-of_fabric n host j k (now_is_fabric before.links.cables can.history) there found made.quotient);
       few_vertices = omega arith;
       few_cables = few-cables m rules;
     }

@@ -1,18 +1,20 @@
 -- The lines of routes after a run are of the last map, which is right.
 use Rattle.std.proofs.Common.{◌≡◌, inl, inr, List, [], Option, Some, None, refl, sym, ap, ◌∙◌}
-use Rattle.net_defs.specs.Network.{Network, IsFabric}
+use Rattle.net_defs.specs.Network.{Network}
+use Rattle.cable_history.specs.History.{IsHistory, fabric_at}
 use Rattle.map_defs.specs.Orientation.{order_of}
 use Rattle.map_defs.specs.Ranks.{ranks_of}
 use Rattle.map_defs.proofs.Places.{places_are_an_order}
 use Rattle.map_defs.proofs.Certifying.{ranks_certify}
 use Rattle.map_laws.proofs.RightRoutes.{routes_of_a_right_map_are_right}
 use Rattle.run_defs.specs.declared.command.Command.TheVariants.{Routes}
-use Rattle.run_defs.specs.Output.{Piece, lines}
+use Rattle.run_defs.specs.Output.{Piece}
 use Rattle.run_defs.specs.Session.{SessionState, LastMap, complete_map}
 use Rattle.run_defs.specs.Outcome.{Outcome, routes_refused}
 use Rattle.run_defs.specs.Run.{Does}
 use Rattle.run_defs.specs.Run.Does.{determined, routes}
 use Rattle.mapping_laws.specs.Held.{HoldsRight}
+use Rattle.mapping_laws.proofs.Sessions.{run_keeps_world}
 use Rattle.mapping_laws.proofs.Holding.{run_holds_right}
 use Rattle.print_laws.specs.Routes.{AreRoutesTold, PrintedRoutesAreRight}
 
@@ -22,28 +24,31 @@ printed_by None = []
 printed_by (Some o) = o.output
 
 -- a refusal, or the routes of the last map
-does-routes : {s next : SessionState} {printed : List Piece} → (n : Network) → IsFabric n → HoldsRight n s → Does s Routes printed next → AreRoutesTold n s printed
-does-routes {s = s} {next = next} {printed = printed} n f holds (determined e) = by (complete_map s.last_map) refl
+does-routes : {s next : SessionState} {printed : List Piece} → IsHistory s.world.links.cables → HoldsRight s → Does s Routes printed next → AreRoutesTold s printed
+does-routes {s = s} {next = next} {printed = printed} history holds (determined e) = by (complete_map s.last_map) refl
   where
-    by : (o : Option LastMap) → complete_map s.last_map ≡ o → AreRoutesTold n s printed
+    by : (o : Option LastMap) → complete_map s.last_map ≡ o → AreRoutesTold s printed
     by None is = inl (is, sym (ap printed_by (sym (ap (routes_refused s) is) ∙ e)))
     by (Some l) is =
         let got : Outcome = record { output = printed; after = next } in
         let bad : None ≡ Some got = sym (ap (routes_refused s) is) ∙ e in
         cc
-does-routes {s = s} n f holds (routes l found complete are printed left) =
-    let right = holds.complete l complete in
+does-routes {s = s} history holds (routes l found complete are printed left) =
+    let was = holds.complete l complete in
+    let right = was.right in
+    let past : Network = fabric_at s.world.links.cables l.began in
     inr (record {
       last = l;
       found = found;
       complete = complete;
+      past = was.past;
       part = right.right;
       ranks = ranks_of l.made (order_of l.made);
       lines_are = printed;
       routes = are;
-      right = routes_of_a_right_map_are_right n l.mapper l.made (order_of l.made) found f right.rules right.right (places_are_an_order l.made) are;
+      right = routes_of_a_right_map_are_right past l.mapper l.made (order_of l.made) found (history.fabrics l.began) right.rules right.right (places_are_an_order l.made) are;
       ranked = ranks_certify l.made (order_of l.made) found right.rules (places_are_an_order l.made) are.least;
     })
 
 pub printed_routes_are_right : PrintedRoutesAreRight
-printed_routes_are_right n commands out printed s next f all r d = does-routes n f (run_holds_right n commands out s f all r) d
+printed_routes_are_right n commands out printed s next f all r d = does-routes (run_keeps_world n commands out s f all r).history (run_holds_right n commands out s f all r) d

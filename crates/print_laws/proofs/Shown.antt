@@ -15,6 +15,7 @@ use Rattle.map_defs.specs.Core.{core_of}
 use Rattle.growth_laws.proofs.OneJournal.{grown_journal_is_one}
 use Rattle.map_laws.proofs.OneMap.{quotient_is_one}
 use Rattle.map_laws.proofs.Alike.{cabled-there}
+use Rattle.cable_history.proofs.Now.{now_is_fabric}
 use Rattle.world_defs.specs.World.{WorldState, fabric_of}
 use Rattle.run_defs.specs.declared.command.Command.{Command}
 use Rattle.run_defs.specs.declared.command.Command.TheVariants.{Map}
@@ -98,7 +99,7 @@ pub record IsMapping (n : Network) (host : ℕ) (words : MapWords) (m : NetMap) 
   pub fabric : fabric_of before ≡ n
   pub mapped : IsMapped host depth tries before after journal m words
 
-pub mapping-of : (n : Network) (commands : List Command) (host : ℕ) (words : MapWords) (m : NetMap) → IsFabric n → IsPrintedAfter n commands host words m → IsMapping n host words m
+pub mapping-of : (n : Network) (commands : List Command) (host : ℕ) (words : MapWords) (m : NetMap) → IsFabric n → (p : IsPrintedAfter n commands host words m) → IsMapping (fabric_of p.session.world) host words m
 mapping-of n commands host words m f p =
     let is : IsSessionOf n p.session = run_keeps_world n commands p.out p.session f p.over p.run in
     let made = does-made host p.depth p.tries words p.prints.asks p.prints.packets m refl p.prints.does in
@@ -108,8 +109,8 @@ mapping-of n commands host words m f p =
       depth = p.depth;
       tries = p.tries;
       journal = made.journal;
-      can = can-map-now n p.session host p.depth p.tries f p.of_fabric is made.none;
-      fabric = is.fabric;
+      can = can-map-now n p.session host p.depth p.tries p.of_fabric is made.none;
+      fabric = refl;
       mapped = made.mapped;
     }
 
@@ -128,9 +129,11 @@ marked-stands n host m k e s =
 pub printed_maps_stand : PrintedMapsStand
 printed_maps_stand n commands host words m f p =
     let a = mapping-of n commands host words m f p in
-    let found : IsTrueWhereFound n host a.journal =
+    let now : Network = fabric_of p.session.world in
+    let fair : IsFabric now = now_is_fabric p.session.world.links.cables (run_keeps_world n commands p.out p.session f p.over p.run).history in
+    let found : IsTrueWhereFound now host a.journal =
     subst (λ k. IsTrueWhereFound k host a.journal) a.fabric (found_is_there host a.depth a.tries a.before a.after a.journal m words a.can a.mapped) in
-    marked-stands n host m a.mapped.unmarked a.mapped.marked (quotient-stands n host a.journal a.mapped.unmarked f found a.mapped.quotient)
+    marked-stands now host m a.mapped.unmarked a.mapped.marked (quotient-stands now host a.journal a.mapped.unmarked fair found a.mapped.quotient)
 
 -- a map that is called complete
 record IsWhole (host : ℕ) (j : List Entry) (drowned : ℕ) : Type 0 where
@@ -176,10 +179,12 @@ true-of n host m a =
     (undrowned_is_true host a.depth a.tries a.before a.after a.journal m Complete a.can a.mapped (called-whole host a.journal a.mapped.drowned a.mapped.called).none)
 
 pub complete_maps_are_one : CompleteMapsAreOne
-complete_maps_are_one n commands others host m k f p q =
+complete_maps_are_one n commands others host m k f p q same =
+    let now : Network = fabric_of p.session.world in
+    let then_true : IsTrueJournal now host (mapping-of n others host Complete k f q).journal = subst (λ x. IsTrueJournal x host (mapping-of n others host Complete k f q).journal) (sym same) (true-of (fabric_of q.session.world) host k (mapping-of n others host Complete k f q)) in
     let a = mapping-of n commands host Complete m f p in
     let b = mapping-of n others host Complete k f q in
     let one : a.journal ≡ b.journal =
-    journals-one n host a.depth b.depth a.mapped.drowned b.mapped.drowned a.journal b.journal (true-of n host m a) (true-of n host k b)
+    journals-one now host a.depth b.depth a.mapped.drowned b.mapped.drowned a.journal b.journal (true-of now host m a) then_true
     (called-whole host a.journal a.mapped.drowned a.mapped.called) (called-whole host b.journal b.mapped.drowned b.mapped.called) a.mapped.grown b.mapped.grown in
     maps-one host b.journal a.mapped.unmarked b.mapped.unmarked m k (subst (λ j. IsQuotient host j a.mapped.unmarked) one a.mapped.quotient) b.mapped.quotient a.mapped.marked b.mapped.marked

@@ -1,8 +1,9 @@
 -- What the lines of routes say: they are of a complete map, which is right, and ranks rise along each.
-use Rattle.std.specs.Prelude.{◌≡◌, ◌⊎◌, List, [], ◌∷◌, ◌++◌, map, length, Some, None}
+use Rattle.std.specs.Prelude.{◌≡◌, ◌⊎◌, ◌≤◌, List, [], ◌∷◌, ◌++◌, map, length, Some, None}
 use Rattle.std.specs.List.{AllByRecursion}
 use Rattle.net_defs.specs.declared.route.Route.{Route}
 use Rattle.net_defs.specs.Network.{Network, IsFabric}
+use Rattle.cable_history.specs.History.{fabric_at}
 use Rattle.map_defs.specs.Orientation.{order_of}
 use Rattle.map_defs.specs.declared.rank.RankEntry.{RankEntry}
 use Rattle.map_defs.specs.Ranks.{IsCertificate}
@@ -17,28 +18,30 @@ use Rattle.run_defs.specs.Session.{SessionState, LastMap, complete_map}
 use Rattle.run_defs.specs.Run.{Does, IsRun, route_line, rank_line}
 use Rattle.run_defs.specs.Headline.{IsCommandOf}
 
--- The lines are the routes of the last map, which is complete and its mapper's part of the fabric: the least legal one
--- for each two hosts. Each leads in the fabric to its host, and the ranks of the lines rise along each.
-pub record AreRoutesLines (n : Network) (s : SessionState) (printed : List Piece) : Type 0 where
+-- The lines are the routes of the last map, which is complete and was its mapper's part of the fabric as it stood when
+-- the map began: the least legal one for each two hosts. Each led in that fabric to its host, and the ranks of the
+-- lines rise along each.
+pub record AreRoutesLines (s : SessionState) (printed : List Piece) : Type 0 where
   pub last : LastMap
   pub found : List Route
   pub complete : complete_map s.last_map ≡ Some last
-  pub part : IsMapOfPart n last.mapper last.made
+  pub past : last.began ≤ s.world.links.cables.changes
+  pub part : IsMapOfPart (fabric_at s.world.links.cables last.began) last.mapper last.made
   pub ranks : List RankEntry
   pub lines_are : printed ≡ lines (RoutesLine (length found) ∷ map route_line found
       ++ map (rank_line last.made) ranks ++ EndRoutes ∷ [])
   pub routes : AreRoutesOf last.made (order_of last.made) found
-  pub right : AreRightRoutes n last.mapper found
+  pub right : AreRightRoutes (fabric_at s.world.links.cables last.began) last.mapper found
   pub ranked : IsCertificate last.made found ranks
 
 -- routes are refused exactly where the last map isn't complete; else the lines are such
-abbrev pub AreRoutesTold : Network → SessionState → List Piece → Type 0
-AreRoutesTold n s printed =
-    ((complete_map s.last_map ≡ None) × (printed ≡ lines (NoMap ∷ []))) ⊎ AreRoutesLines n s printed
+abbrev pub AreRoutesTold : SessionState → List Piece → Type 0
+AreRoutesTold s printed =
+    ((complete_map s.last_map ≡ None) × (printed ≡ lines (NoMap ∷ []))) ⊎ AreRoutesLines s printed
 
 -- whatever a command `routes` prints after a run is that
 abbrev pub PrintedRoutesAreRight : Type 0
 PrintedRoutesAreRight =
     (n : Network) (commands : List Command) (out printed : List Piece) (s next : SessionState) → IsFabric n
     → AllByRecursion (IsCommandOf n) commands → IsRun n commands out s → Does s Routes printed next
-    → AreRoutesTold n s printed
+    → AreRoutesTold s printed

@@ -1,8 +1,9 @@
--- Maps that runs print: whatever they show is there, and complete ones of one host are one.
+-- Maps that runs print: whatever they show was there, and complete ones of one host over one fabric are one.
 use Rattle.std.specs.Prelude.{◌≡◌, ℕ, List, [], ◌∷◌}
 use Rattle.std.specs.List.{AllByRecursion}
 use Rattle.net_defs.specs.Network.{Network, IsFabric}
 use Rattle.map_defs.specs.NetMap.{NetMap}
+use Rattle.world_defs.specs.World.{fabric_of}
 use Rattle.run_defs.specs.declared.command.Command.{Command}
 use Rattle.run_defs.specs.declared.command.Command.TheVariants.{Map}
 use Rattle.run_defs.specs.declared.line.Line.TheVariants.{Map as MapLine}
@@ -33,13 +34,14 @@ pub record IsPrintedAfter (n : Network) (commands : List Command) (host : ℕ) (
   pub next : SessionState
   pub prints : PrintsMap session next host depth tries words m
 
--- each map that is printed, under whatever words, stands over the fabric
+-- each map that is printed, under whatever words, stands over the fabric as it stood before its command
 abbrev pub PrintedMapsStand : Type 0
 PrintedMapsStand = (n : Network) (commands : List Command) (host : ℕ) (words : MapWords) (m : NetMap) → IsFabric n
-    → IsPrintedAfter n commands host words m → StandsOver n host m
+    → (printed : IsPrintedAfter n commands host words m) → StandsOver (fabric_of printed.session.world) host m
 
--- two complete maps of one host are one map, whatever the runs before them were
+-- two complete maps of one host are one map where the fabric stood alike before them, whatever runs led to them
 abbrev pub CompleteMapsAreOne : Type 0
 CompleteMapsAreOne =
     (n : Network) (first second : List Command) (host : ℕ) (m k : NetMap) → IsFabric n
-    → IsPrintedAfter n first host Complete m → IsPrintedAfter n second host Complete k → m ≡ k
+    → (a : IsPrintedAfter n first host Complete m) → (b : IsPrintedAfter n second host Complete k)
+    → fabric_of a.session.world ≡ fabric_of b.session.world → m ≡ k

@@ -1,5 +1,6 @@
 //! What is proved of printed maps and routes: every map that a run prints is read back from its lines as the map that
-//! was printed, each vertex and cable that it shows is there, and the printed routes lead where they say.
+//! was printed, each vertex and cable that it shows was there before its command, and the printed routes led where they
+//! say when their map began.
 //!
 //! It reads and prints nothing: that is `map_canon`; that a complete map is right is a law of `mapping_laws`.
 //!
@@ -7,9 +8,9 @@
 //! |---|---|
 //! | `Printed` | that printed maps are read back |
 //! | `Standing` | what it means that each vertex and cable that a map shows is there |
-//! | `Shown` | that it is so of every printed map, and that complete ones of one host are one map |
-//! | `Marks` | that a complete map's marks are those of the fabric |
-//! | `Routes` | that printed routes are those of a right map, lead there, and that ranks rise along them |
+//! | `Shown` | that it is so of every printed map, and that complete ones of one host over one fabric are one map |
+//! | `Marks` | that a complete map's marks are those of the fabric before its command |
+//! | `Routes` | that printed routes are those of a right map, led there, and that ranks rise along them |
 #![tactic(auto)]
 
 ghost use Rattle.print_laws.specs.Printed.{MadeMapIsPrintable, CircuitMapIsPrintable, PrintableIsReadAgain};
@@ -32,22 +33,23 @@ pub fn printed_maps()
     ensures circuit { CircuitMapsReadBack }
 {}
 
-/// Each map that a run prints, under whatever words, stands over the fabric; and two complete maps of one host are one
-/// map, whatever depths, tries and planned faults there were.
+/// Each map that a run prints, under whatever words, stands over the fabric as it stood before its command; and two
+/// complete maps of one host are one map where the fabric stood alike before them, whatever depths, tries and planned
+/// faults there were.
 pub fn shown_maps()
     ensures stand { PrintedMapsStand }
     ensures one { CompleteMapsAreOne }
 {}
 
-/// A complete map marks a vertex as outside exactly where a cable between two switches of the fabric cuts the vertex
-/// that it stands for off from all hosts.
+/// A complete map marks a vertex as outside exactly where a cable between two switches of the fabric before its command
+/// cuts the vertex that it stands for off from all hosts.
 pub fn marks_of_maps()
     ensures outside { OutsideIsCutOff }
     ensures printed { MarksAreRight }
 {}
 
-/// The routes that a run prints are those of a right map, one for each two hosts; they lead there in the fabric, and
-/// the ranks that are printed with them rise along each.
+/// The routes that a run prints are those of a right map, one for each two hosts; they led there in the fabric as it
+/// stood when the map began, and the ranks that are printed with them rise along each.
 pub fn printed_routes()
     ensures { PrintedRoutesAreRight }
 {}

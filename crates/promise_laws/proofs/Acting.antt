@@ -2,6 +2,7 @@
 use Rattle.std.proofs.Common.{◌≡◌, ℕ, Bool, true, false, not, List, [], ◌∷◌, ◌++◌, map, Option, Some, None, refl, sym, ◌∙◌, ap, subst, if◌then◌else◌}
 use Rattle.std.specs.List.{AllByRecursion}
 use Rattle.net_defs.specs.Network.{Network}
+use Rattle.cable_history.specs.History.{IsHistory}
 use Rattle.link_defs.specs.Links.{is_idle}
 use Rattle.journal_defs.specs.declared.entry.Entry.{Entry}
 use Rattle.map_defs.specs.NetMap.{NetMap}
@@ -19,12 +20,13 @@ use Rattle.run_defs.specs.declared.line.InstallCause.TheVariants.{Busy}
 use Rattle.run_defs.specs.Mapped.{IsMapped}
 use Rattle.run_defs.specs.Output.{Piece}
 use Rattle.run_defs.specs.Session.{SessionState, LastMap, LastRoutes, complete_map}
-use Rattle.run_defs.specs.Outcome.{Outcome, says_only, event_of, step_or_idle, install_now, install, map_refused, routes_refused, outcome, set_of, adopt_cause}
+use Rattle.run_defs.specs.Outcome.{Outcome, says_only, event_of, step_or_idle, install_now, install, map_refused, routes_refused, outcome, set_of, may_install, refusal_cause}
 use Rattle.run_defs.specs.Run.{Does}
 use Rattle.run_defs.specs.Run.Does.{determined, maps, circuits, routes}
 use Rattle.run_laws.specs.Acts.{IsActOf}
 use Rattle.run_laws.proofs.OneMapping.{mapping_is_one}
-use Rattle.run_laws.proofs.Reaching.{LastAdoptable, IsLed, run-led, event-bytes}
+use Rattle.mapping_laws.proofs.Holding.{can-install}
+use Rattle.run_laws.proofs.Reaching.{WereAdoptable, LastAdoptable, adoptable-now, IsLed, run-led, event-bytes}
 use Rattle.world_defs.specs.Log.{Log}
 use Rattle.world_defs.specs.Logs as log
 use Rattle.promise_laws.specs.CommandActs.{step_acts, install_now_acts, install_acts, acts_of, StandsFor, HasSoundActs, CommandsHaveSoundActs, RunsEndSound}
@@ -61,18 +63,19 @@ by-events : (w v : WorldState) (es : List Event) → IsRow IsByteEvent w es v �
 by-events w v es d = record { may = may-events w es d.kinds; there = d.there ∙ sym (acted-events w es) }
 
 -- an installation
-install-leads : (n : Network) (s : SessionState) (tries : ℕ) (o : Option LastRoutes) → fabric_of s.world ≡ n → ((l : LastRoutes) → o ≡ Some l → AreAdoptable n l.routes) → LeadsBy (install_acts s.world tries o) s.world (install s tries o).after.world
-install-leads n s tries None net may = by-none s.world
-install-leads n s tries (Some l) net may = by (not (is_idle s.world.links)) (not (may_adopt s.world l.routes)) refl
+install-leads : (s : SessionState) (tries : ℕ) (o : Option LastRoutes) → IsHistory s.world.links.cables → ((l : LastRoutes) → o ≡ Some l → WereAdoptable s.world.links.cables l) → LeadsBy (install_acts s.world tries o) s.world (install s tries o).after.world
+install-leads s tries None is may = by-none s.world
+install-leads s tries (Some l) is may = by (not (is_idle s.world.links)) (not (may_install s.world l)) refl
   where
-    by : (busy other : Bool) → not (may_adopt s.world l.routes) ≡ other → LeadsBy (if busy then [] else if other then [] else install_now_acts s.world l tries) s.world (if busy then says_only s (InstallRefused Busy ∷ []) else if other then says_only s (InstallRefused (adopt_cause s.world) ∷ []) else install_now s l tries).after.world
+    by : (busy other : Bool) → not (may_install s.world l) ≡ other → LeadsBy (if busy then [] else if other then [] else install_now_acts s.world l tries) s.world (if busy then says_only s (InstallRefused Busy ∷ []) else if other then says_only s (InstallRefused (refusal_cause s.world l) ∷ []) else install_now s l tries).after.world
     by true other e = by-none s.world
     by false true e = by-none s.world
     by false false e =
         let w : WorldState = adopted_by s.world l.mapper l.routes in
         let es : List Event = (log.install (set_of s.world l) l.hosts tries w).events in
         let d = by-events w (log.install (set_of s.world l) l.hosts tries w).world es (install-row byte_asks (λ dst part. tt) (set_of s.world l) l.hosts tries w) in
-        record { may = ((subst (λ k. AreAdoptable k l.routes) (sym net) (may l refl), may-from (may_adopt s.world l.routes) e), d.may); there = d.there }
+        let can = can-install s.world l e in
+        record { may = ((adoptable-now s.world l is can.0 (may l refl), can.1), d.may); there = d.there }
 
 -- a step
 step-leads : (s : SessionState) (o : Option Event) → ((e : Event) → o ≡ Some e → IsByteEvent e) → LeadsBy (step_acts o) s.world (step_or_idle s o).after.world
@@ -96,12 +99,12 @@ refused-acts : (s : SessionState) (o : Option LastMap) → ActsIn s (routes_refu
 refused-acts s None = by-none s.world
 refused-acts s (Some l) = tt
 
-outcome-acts : (n : Network) (s : SessionState) (c : Command) → IsActOf n c → fabric_of s.world ≡ n → LastAdoptable n s → ActsIn s (outcome s c) (acts_of s c)
+outcome-acts : (n : Network) (s : SessionState) (c : Command) → IsActOf n c → IsHistory s.world.links.cables → LastAdoptable s → ActsIn s (outcome s c) (acts_of s c)
 outcome-acts n s (Walk host walk) of_n net may = by-none s.world
 outcome-acts n s (Map host depth tries) of_n net may = busy-acts s host
 outcome-acts n s (Circuit host depth) of_n net may = tt
 outcome-acts n s Routes of_n net may = refused-acts s (complete_map s.last_map)
-outcome-acts n s (Install tries) of_n net may = install-leads n s tries s.last_routes net may
+outcome-acts n s (Install tries) of_n net may = install-leads s tries s.last_routes net may
 outcome-acts n s (BeginCommand h port sends recvs) of_n net may = by-event s.world (Event.Begin h port sends recvs) tt
 outcome-acts n s (CloseCommand h port) of_n net may = by-event s.world (Event.Close h port) tt
 outcome-acts n s (PollCommand h port) of_n net may = by-event s.world (Event.Poll h port) tt
@@ -140,11 +143,11 @@ still-stands : (s next : SessionState) (c : Command) → acts_of s c ≡ Some []
 still-stands s next c none same = record { acts = []; are = told none; leads = record { may = tt; there = same } }
 
 does-stand : {s next : SessionState} {c : Command} {out : List Piece} → (n : Network) → IsActOf n c → IsLed n s → Does s c out next → Standing s c next
-does-stand {s = s} {next = next} {c = c} {out = out} n of_n led (determined e) = determined-stands s next c out e (outcome-acts n s c of_n led.session.fabric led.adoptable)
+does-stand {s = s} {next = next} {c = c} {out = out} n of_n led (determined e) = determined-stands s next c out e (outcome-acts n s c of_n led.session.history led.adoptable)
 does-stand {s = s} {next = next} n of_n led (maps {host = host} {depth = depth} {tries = tries} after j m words none made printed left) =
     let walks = map (λ (e : Entry). e.walk) j in
-    let l : Log log.AskedAll = log.asks host tries walks s.world in
-    let d = by-events s.world l.world l.events (asks-row byte_asks (λ h walk looped. tt) host tries walks s.world) in
+    let l : Log log.AskedAll = log.asks s.world.links.cables.changes host tries walks s.world in
+    let d = by-events s.world l.world l.events (asks-row byte_asks (λ h walk looped. tt) s.world.links.cables.changes host tries walks s.world) in
     let there : next.world ≡ l.world = ap (λ (x : SessionState). x.world) left ∙ made.led in
     record {
       acts = map Happens l.events;
@@ -163,10 +166,10 @@ none-list s host depth tries xs e idle =
     let none : acts_of s (Map host depth tries) ≡ None = ap (λ b. if b then None else Some []) idle in cc
 
 asked-one : (s : SessionState) (host depth tries : ℕ) (xs ys : List Act) (v w : WorldState) (j l : List Entry) (m k : NetMap) (x y : MapWords) → IsMapped host depth tries s.world v j m x → IsMapped host depth tries s.world w l k y
-    → xs ≡ map Happens (log.asks host tries (map (λ e. e.walk) j) s.world).events → ys ≡ map Happens (log.asks host tries (map (λ e. e.walk) l) s.world).events → ys ≡ xs
+    → xs ≡ map Happens (log.asks s.world.links.cables.changes host tries (map (λ e. e.walk) j) s.world).events → ys ≡ map Happens (log.asks s.world.links.cables.changes host tries (map (λ e. e.walk) l) s.world).events → ys ≡ xs
 asked-one s host depth tries xs ys v w j l m k x y first second e f =
     let one = mapping_is_one host depth tries s.world v w j l m k x y first second in
-    f ∙ sym (ap (λ (z : List Entry). map Happens (log.asks host tries (map (λ e. e.walk) z) s.world).events) one.1) ∙ sym e
+    f ∙ sym (ap (λ (z : List Entry). map Happens (log.asks s.world.links.cables.changes host tries (map (λ e. e.walk) z) s.world).events) one.1) ∙ sym e
 
 stands-one : {s : SessionState} {c : Command} {xs ys : List Act} → StandsFor s c xs → StandsFor s c ys → ys ≡ xs
 stands-one {xs = xs} {ys = ys} (told e) (told f) = some-list ys xs (sym f ∙ e)

@@ -82,77 +82,77 @@ same-rest : (d e : Entry) (xs ys : List Entry) → d ∷ xs ≡ e ∷ ys → xs 
 same-rest d e xs ys same = cc
 
 -- the entry that an ask in a world makes
-abbrev entry_of : ℕ → ℕ → WorldState → List ℤ → Entry
-entry_of host tries u x = record { walk = x; answer = (log.ask host tries x u).value.answer }
+abbrev entry_of : ℕ → ℕ → ℕ → WorldState → List ℤ → Entry
+entry_of made host tries u x = record { walk = x; answer = (log.ask made host tries x u).value.answer }
 
 -- asks in a row from a world answer their own journal
-abbrev Answers : ℕ → ℕ → WorldState → List Entry → Type 0
-Answers host tries u j = (log.asks host tries (walks_of j) u).value.entries ≡ j
+abbrev Answers : ℕ → ℕ → ℕ → WorldState → List Entry → Type 0
+Answers made host tries u j = (log.asks made host tries (walks_of j) u).value.entries ≡ j
 
-answers-first : (host tries : ℕ) (u : WorldState) (e : Entry) (j : List Entry) → Answers host tries u (e ∷ j) → entry_of host tries u e.walk ≡ e
-answers-first host tries u e j is = same-entry (entry_of host tries u e.walk) e (log.asks host tries (walks_of j) (log.ask host tries e.walk u).world).value.entries j is
+answers-first : (made host tries : ℕ) (u : WorldState) (e : Entry) (j : List Entry) → Answers made host tries u (e ∷ j) → entry_of made host tries u e.walk ≡ e
+answers-first made host tries u e j is = same-entry (entry_of made host tries u e.walk) e (log.asks made host tries (walks_of j) (log.ask made host tries e.walk u).world).value.entries j is
 
-answers-rest : (host tries : ℕ) (u : WorldState) (e : Entry) (j : List Entry) → Answers host tries u (e ∷ j) → Answers host tries (log.ask host tries e.walk u).world j
-answers-rest host tries u e j is = same-rest (entry_of host tries u e.walk) e (log.asks host tries (walks_of j) (log.ask host tries e.walk u).world).value.entries j is
+answers-rest : (made host tries : ℕ) (u : WorldState) (e : Entry) (j : List Entry) → Answers made host tries u (e ∷ j) → Answers made host tries (log.ask made host tries e.walk u).world j
+answers-rest made host tries u e j is = same-rest (entry_of made host tries u e.walk) e (log.asks made host tries (walks_of j) (log.ask made host tries e.walk u).world).value.entries j is
 
 -- of asks in a row from a world, which grow after a journal, those that have grown begin with the others
-asked-front : (host depth tries : ℕ) (before i j : List Entry) (u : WorldState) → Answers host tries u i → Answers host tries u j → IsGrowing host depth (before ++ i) → IsKept (before ++ i) → IsGrown host depth (before ++ j) → IsPrefix i j
-asked-front host depth tries before [] j u a b g k h = record { rest = j; both = refl }
-asked-front host depth tries before (e ∷ i) j u a b g k h =
+asked-front : (made host depth tries : ℕ) (before i j : List Entry) (u : WorldState) → Answers made host tries u i → Answers made host tries u j → IsGrowing host depth (before ++ i) → IsKept (before ++ i) → IsGrown host depth (before ++ j) → IsPrefix i j
+asked-front made host depth tries before [] j u a b g k h = record { rest = j; both = refl }
+asked-front made host depth tries before (e ∷ i) j u a b g k h =
     of (grown-next host depth before j e.walk h (kept-before before e i k) (ask-at host depth (before ++ e ∷ i) before e i g refl))
-    (λ tail b2 h2. asked-front host depth tries (before ++ e ∷ []) i tail v (answers-rest host tries u e i a) b2 (subst (IsGrowing host depth) one g) (subst IsKept one k) h2)
+    (λ tail b2 h2. asked-front made host depth tries (before ++ e ∷ []) i tail v (answers-rest made host tries u e i a) b2 (subst (IsGrowing host depth) one g) (subst IsKept one k) h2)
   where
     v : WorldState
-    v = (log.ask host tries e.walk u).world
+    v = (log.ask made host tries e.walk u).world
 
     one : before ++ e ∷ i ≡ (before ++ e ∷ []) ++ i
     one = sym (append_assoc before (e ∷ []) i)
 
-    of : StartsWith e.walk j → ((tail : List Entry) → Answers host tries v tail → IsGrown host depth ((before ++ e ∷ []) ++ tail) → IsPrefix i tail) → IsPrefix (e ∷ i) j
+    of : StartsWith e.walk j → ((tail : List Entry) → Answers made host tries v tail → IsGrown host depth ((before ++ e ∷ []) ++ tail) → IsPrefix i tail) → IsPrefix (e ∷ i) j
     of (starts f tail is walk) again =
-        let b1 : Answers host tries u (f ∷ tail) = subst (Answers host tries u) is b in
-        let same : f ≡ e = sym (answers-first host tries u f tail b1) ∙ ap (entry_of host tries u) walk ∙ answers-first host tries u e i a in
+        let b1 : Answers made host tries u (f ∷ tail) = subst (Answers made host tries u) is b in
+        let same : f ≡ e = sym (answers-first made host tries u f tail b1) ∙ ap (entry_of made host tries u) walk ∙ answers-first made host tries u e i a in
         let there : j ≡ e ∷ tail = is ∙ ap (λ x. x ∷ tail) same in
         let h2 : IsGrown host depth ((before ++ e ∷ []) ++ tail) = subst (IsGrown host depth) (ap (λ l. before ++ l) there ∙ sym (append_assoc before (e ∷ []) tail)) h in
-        let p = again tail (subst (λ x. Answers host tries (log.ask host tries x u).world tail) walk (answers-rest host tries u f tail b1)) h2 in
+        let p = again tail (subst (λ x. Answers made host tries (log.ask made host tries x u).world tail) walk (answers-rest made host tries u f tail b1)) h2 in
         record { rest = p.rest; both = there ∙ ap (λ l. e ∷ l) p.both }
 
 -- the events of asks in a row, and of those after them
-asks-append : (host tries : ℕ) (xs ys : List (List ℤ)) (w : WorldState) → (log.asks host tries (xs ++ ys) w).events ≡ (log.asks host tries xs w).events ++ (log.asks host tries ys (log.asks host tries xs w).world).events
-asks-append host tries [] ys w = refl
-asks-append host tries (x ∷ xs) ys w =
-    let one : Log log.Asked = log.ask host tries x w in
-    let more : Log log.AskedAll = log.asks host tries xs one.world in
-    ap (λ l. one.events ++ l) (asks-append host tries xs ys one.world) ∙ sym (append_assoc one.events more.events (log.asks host tries ys more.world).events)
+asks-append : (made host tries : ℕ) (xs ys : List (List ℤ)) (w : WorldState) → (log.asks made host tries (xs ++ ys) w).events ≡ (log.asks made host tries xs w).events ++ (log.asks made host tries ys (log.asks made host tries xs w).world).events
+asks-append made host tries [] ys w = refl
+asks-append made host tries (x ∷ xs) ys w =
+    let one : Log log.Asked = log.ask made host tries x w in
+    let more : Log log.AskedAll = log.asks made host tries xs one.world in
+    ap (λ l. one.events ++ l) (asks-append made host tries xs ys one.world) ∙ sym (append_assoc one.events more.events (log.asks made host tries ys more.world).events)
 
 -- part of the way along asks after others
-way-asks : (host tries : ℕ) (w u v : WorldState) (i rest : List Entry) → u ≡ (log.asks host tries (walks_of i) w).world → IsPartWay u (log.asks host tries (walks_of rest) u).events v
-    → IsPartWay w (log.asks host tries (walks_of (i ++ rest)) w).events v
-way-asks host tries w u v i rest is p =
-    let first : List Event = (log.asks host tries (walks_of i) w).events in
-    let mid : WorldState = (log.asks host tries (walks_of i) w).world in
-    let behind : List Event = (log.asks host tries (walks_of rest) mid).events in
-    way-as w v (log.asks host tries (walks_of (i ++ rest)) w).events (first ++ behind)
-    (ap (λ l. (log.asks host tries l w).events) (map-append (λ (e : Entry). e.walk) i rest) ∙ asks-append host tries (walks_of i) (walks_of rest) w)
-    (way-behind w mid v first behind (asks-row {Q = IsByteEvent} byte_asks (λ h walk looped. tt) host tries (walks_of i) w).there
-    (subst (λ x. IsPartWay x (log.asks host tries (walks_of rest) x).events v) is p))
+way-asks : (made host tries : ℕ) (w u v : WorldState) (i rest : List Entry) → u ≡ (log.asks made host tries (walks_of i) w).world → IsPartWay u (log.asks made host tries (walks_of rest) u).events v
+    → IsPartWay w (log.asks made host tries (walks_of (i ++ rest)) w).events v
+way-asks made host tries w u v i rest is p =
+    let first : List Event = (log.asks made host tries (walks_of i) w).events in
+    let mid : WorldState = (log.asks made host tries (walks_of i) w).world in
+    let behind : List Event = (log.asks made host tries (walks_of rest) mid).events in
+    way-as w v (log.asks made host tries (walks_of (i ++ rest)) w).events (first ++ behind)
+    (ap (λ l. (log.asks made host tries l w).events) (map-append (λ (e : Entry). e.walk) i rest) ∙ asks-append made host tries (walks_of i) (walks_of rest) w)
+    (way-behind w mid v first behind (asks-row {Q = IsByteEvent} byte_asks (λ h walk looped. tt) made host tries (walks_of i) w).there
+    (subst (λ x. IsPartWay x (log.asks made host tries (walks_of rest) x).events v) is p))
 
 -- within the next ask after them
-way-within : (host tries : ℕ) (w u v : WorldState) (i rest : List Entry) (x : List ℤ) → u ≡ (log.asks host tries (walks_of i) w).world → IsPartWay u (log.ask host tries x u).events v → StartsWith x rest
-    → IsPartWay w (log.asks host tries (walks_of (i ++ rest)) w).events v
-way-within host tries w u v i rest x is way (starts e tail same walk) =
-    let first : IsPartWay u (log.ask host tries e.walk u).events v = subst (λ y. IsPartWay u (log.ask host tries y u).events v) (sym walk) way in
-    let here : IsPartWay u (log.asks host tries (walks_of (e ∷ tail)) u).events v =
-    way-front u v (log.ask host tries e.walk u).events (log.asks host tries (walks_of tail) (log.ask host tries e.walk u).world).events first in
-    way-asks host tries w u v i rest is (subst (λ r. IsPartWay u (log.asks host tries (walks_of r) u).events v) (sym same) here)
+way-within : (made host tries : ℕ) (w u v : WorldState) (i rest : List Entry) (x : List ℤ) → u ≡ (log.asks made host tries (walks_of i) w).world → IsPartWay u (log.ask made host tries x u).events v → StartsWith x rest
+    → IsPartWay w (log.asks made host tries (walks_of (i ++ rest)) w).events v
+way-within made host tries w u v i rest x is way (starts e tail same walk) =
+    let first : IsPartWay u (log.ask made host tries e.walk u).events v = subst (λ y. IsPartWay u (log.ask made host tries y u).events v) (sym walk) way in
+    let here : IsPartWay u (log.asks made host tries (walks_of (e ∷ tail)) u).events v =
+    way-front u v (log.ask made host tries e.walk u).events (log.asks made host tries (walks_of tail) (log.ask made host tries e.walk u).world).events first in
+    way-asks made host tries w u v i rest is (subst (λ r. IsPartWay u (log.asks made host tries (walks_of r) u).events v) (sym same) here)
 
-pub begun-way : (host depth tries : ℕ) (w v : WorldState) (j : List Entry) → IsGrown host depth j → Answers host tries w j
-    → IsBegunMap host depth tries w v → IsPartWay w (log.asks host tries (walks_of j) w).events v
+pub begun-way : (host depth tries : ℕ) (w v : WorldState) (j : List Entry) → IsGrown host depth j → Answers w.links.cables.changes host tries w j
+    → IsBegunMap host depth tries w v → IsPartWay w (log.asks w.links.cables.changes host tries (walks_of j) w).events v
 begun-way host depth tries w v j grown asked (stopped_between i g kept is led) =
-    let p : IsPrefix i j = asked-front host depth tries [] i j w is asked g kept grown in
-    subst (λ l. IsPartWay w (log.asks host tries (walks_of l) w).events v) (sym p.both)
-    (way-asks host tries w v v i p.rest led (way-start v (log.asks host tries (walks_of p.rest) v).events))
+    let p : IsPrefix i j = asked-front w.links.cables.changes host depth tries [] i j w is asked g kept grown in
+    subst (λ l. IsPartWay w (log.asks w.links.cables.changes host tries (walks_of l) w).events v) (sym p.both)
+    (way-asks w.links.cables.changes host tries w v v i p.rest led (way-start v (log.asks w.links.cables.changes host tries (walks_of p.rest) v).events))
 begun-way host depth tries w v j grown asked (stopped_within i x u g kept is led ask way) =
-    let p : IsPrefix i j = asked-front host depth tries [] i j w is asked g (inl kept) grown in
-    subst (λ l. IsPartWay w (log.asks host tries (walks_of l) w).events v) (sym p.both)
-    (way-within host tries w u v i p.rest x led way (grown-next host depth i p.rest x (subst (IsGrown host depth) p.both grown) kept ask))
+    let p : IsPrefix i j = asked-front w.links.cables.changes host depth tries [] i j w is asked g (inl kept) grown in
+    subst (λ l. IsPartWay w (log.asks w.links.cables.changes host tries (walks_of l) w).events v) (sym p.both)
+    (way-within w.links.cables.changes host tries w u v i p.rest x led way (grown-next host depth i p.rest x (subst (IsGrown host depth) p.both grown) kept ask))

@@ -20,7 +20,7 @@ use Rattle.run_defs.specs.declared.line.Line.TheVariants.{MapBusy, InstallRefuse
 use Rattle.run_defs.specs.declared.line.InstallCause.TheVariants.{Busy}
 use Rattle.run_defs.specs.Mapped.{IsMapped}
 use Rattle.run_defs.specs.Session.{SessionState, LastMap, LastRoutes, complete_map}
-use Rattle.run_defs.specs.Outcome.{Outcome, says_only, event_of, step_or_idle, fault_of, install_now, install, map_refused, routes_refused, outcome, set_of, adopt_cause}
+use Rattle.run_defs.specs.Outcome.{Outcome, says_only, event_of, step_or_idle, fault_of, install_now, install, map_refused, routes_refused, outcome, set_of, may_install, refusal_cause}
 use Rattle.mapping_laws.proofs.Words.{mapping_exists}
 use Rattle.promise_laws.specs.CommandActs.{step_acts, install_now_acts, install_acts, acts_of, HasSoundActs}
 use Rattle.promise_laws.specs.CommandActs.StandsFor.{determined, asks}
@@ -101,9 +101,9 @@ led-step s (Some e) = refl
 
 led-install : (s : SessionState) (tries : ℕ) (o : Option LastRoutes) → (install s tries o).after.world ≡ acted_all s.world (install_acts s.world tries o)
 led-install s tries None = refl
-led-install s tries (Some l) = by (not (is_idle s.world.links)) (not (may_adopt s.world l.routes))
+led-install s tries (Some l) = by (not (is_idle s.world.links)) (not (may_install s.world l))
   where
-    by : (busy other : Bool) → (if busy then says_only s (InstallRefused Busy ∷ []) else if other then says_only s (InstallRefused (adopt_cause s.world) ∷ []) else install_now s l tries).after.world ≡ acted_all s.world (if busy then [] else if other then [] else install_now_acts s.world l tries)
+    by : (busy other : Bool) → (if busy then says_only s (InstallRefused Busy ∷ []) else if other then says_only s (InstallRefused (refusal_cause s.world l) ∷ []) else install_now s l tries).after.world ≡ acted_all s.world (if busy then [] else if other then [] else install_now_acts s.world l tries)
     by true other = refl
     by false true = refl
     by false false =
@@ -149,13 +149,13 @@ abbrev unless : Bool → Bool → List Act → List Act
 unless busy other acts = if busy then [] else if other then [] else acts
 
 -- along an installation that isn't refused
-pub part-installed : (w u v : WorldState) (l : LastRoutes) (tries : ℕ) → is_idle w.links ≡ true → not (may_adopt w l.routes) ≡ false → u ≡ adopted_by w l.mapper l.routes → IsPartWay u (log.install (set_of w l) l.hosts tries u).events v
+pub part-installed : (w u v : WorldState) (l : LastRoutes) (tries : ℕ) → is_idle w.links ≡ true → not (may_install w l) ≡ false → u ≡ adopted_by w l.mapper l.routes → IsPartWay u (log.install (set_of w l) l.hosts tries u).events v
     → IsPartActed w (install_acts w tries (Some l)) v
 part-installed w u v l tries idle other led p =
     let events : WorldState → List Event = λ x. (log.install (set_of w l) l.hosts tries x).events in
     let now : List Act = install_now_acts w l tries in
     let are : install_acts w tries (Some l) ≡ now =
-    ap (λ b. unless (not b) (not (may_adopt w l.routes)) now) idle ∙ ap (λ b. unless false b now) other in
+    ap (λ b. unless (not b) (not (may_install w l)) now) idle ∙ ap (λ b. unless false b now) other in
     let start : WorldState = adopted_by w l.mapper l.routes in
     subst (λ acts. IsPartActed w acts v) (sym are)
     (part-behind w start v (Act.Adopts l.mapper l.routes) (map Happens (events start)) refl (part-events start v (events start) (subst (λ x. IsPartWay x (events x) v) led p)))
@@ -163,8 +163,8 @@ part-installed w u v l tries idle other led p =
 -- a map that was made, but for its text
 pub cut_mapped : (s : SessionState) (host depth tries : ℕ) (v : WorldState) (j : List Entry) (m : NetMap) (words : MapWords) → is_idle s.world.links ≡ true → IsMapped host depth tries s.world v j m words → IsCutShort s (Map host depth tries) v
 cut_mapped s host depth tries v j m words idle made =
-    let es : List Event = (log.asks host tries (map (λ (e : Entry). e.walk) j) s.world).events in
-    let led : v ≡ after_all s.world es = made.led ∙ (asks-row {Q = IsByteEvent} byte_asks (λ h walk looped. tt) host tries (map (λ (e : Entry). e.walk) j) s.world).there in
+    let es : List Event = (log.asks s.world.links.cables.changes host tries (map (λ (e : Entry). e.walk) j) s.world).events in
+    let led : v ≡ after_all s.world es = made.led ∙ (asks-row {Q = IsByteEvent} byte_asks (λ h walk looped. tt) s.world.links.cables.changes host tries (map (λ (e : Entry). e.walk) j) s.world).there in
     record { acts = map Happens es; are = asks v j m words idle made refl; way = part-events s.world v es (way-whole s.world v es led) }
 
 -- and one that was begun
@@ -172,7 +172,7 @@ pub begun_maps_are_cut_short : BegunMapsAreCutShort
 begun_maps_are_cut_short s host depth tries v can begun =
     let h = mapping_exists host depth tries s.world can in
     let k = h.is in
-    let es : List Event = (log.asks host tries (map (λ (e : Entry). e.walk) h.journal) s.world).events in
+    let es : List Event = (log.asks s.world.links.cables.changes host tries (map (λ (e : Entry). e.walk) h.journal) s.world).events in
     record {
       acts = map Happens es;
       are = asks h.after h.journal h.made h.words can.idle k refl;

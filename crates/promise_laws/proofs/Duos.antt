@@ -21,7 +21,7 @@ use Rattle.run_defs.specs.declared.line.Line.TheVariants.{MapBusy, InstallRefuse
 use Rattle.run_defs.specs.declared.line.InstallCause.TheVariants.{Busy}
 use Rattle.run_defs.specs.Duos.{begun, beside, IsOther}
 use Rattle.run_defs.specs.Output.{Piece, OneLine}
-use Rattle.run_defs.specs.Outcome.{Outcome, says_only, event_of, step_or_idle, install_now, install, map_refused, routes_refused, outcome, adopt_cause}
+use Rattle.run_defs.specs.Outcome.{Outcome, says_only, event_of, step_or_idle, install_now, install, map_refused, routes_refused, outcome, may_install, refusal_cause}
 use Rattle.run_defs.specs.Run.{Does, Runs}
 use Rattle.run_defs.specs.Run.Does.{determined, maps, circuits, routes}
 use Rattle.run_defs.specs.Run.Runs.{ended, goes_on}
@@ -88,10 +88,10 @@ routes-beside s (Some l) d = refl
 
 install-beside : (s : SessionState) (tries : ℕ) (o : Option LastRoutes) (d : Option DuoState) → install (beside s d) tries o ≡ with-duo d (install s tries o)
 install-beside s tries None d = refl
-install-beside s tries (Some l) d = by (not (is_idle s.world.links)) (not (may_adopt s.world l.routes))
+install-beside s tries (Some l) d = by (not (is_idle s.world.links)) (not (may_install s.world l))
   where
-    by : (busy other : Bool) → (if busy then says_only (beside s d) (InstallRefused Busy ∷ []) else if other then says_only (beside s d) (InstallRefused (adopt_cause s.world) ∷ []) else install_now (beside s d) l tries)
-        ≡ with-duo d (if busy then says_only s (InstallRefused Busy ∷ []) else if other then says_only s (InstallRefused (adopt_cause s.world) ∷ []) else install_now s l tries)
+    by : (busy other : Bool) → (if busy then says_only (beside s d) (InstallRefused Busy ∷ []) else if other then says_only (beside s d) (InstallRefused (refusal_cause s.world l) ∷ []) else install_now (beside s d) l tries)
+        ≡ with-duo d (if busy then says_only s (InstallRefused Busy ∷ []) else if other then says_only s (InstallRefused (refusal_cause s.world l) ∷ []) else install_now s l tries)
     by true other = refl
     by false true = refl
     by false false = refl
@@ -144,9 +144,9 @@ routes-keep s (Some l) = tt
 
 install-keeps : (s : SessionState) (tries : ℕ) (o : Option LastRoutes) → (install s tries o).after.duo ≡ s.duo
 install-keeps s tries None = refl
-install-keeps s tries (Some l) = by (not (is_idle s.world.links)) (not (may_adopt s.world l.routes))
+install-keeps s tries (Some l) = by (not (is_idle s.world.links)) (not (may_install s.world l))
   where
-    by : (busy other : Bool) → (if busy then says_only s (InstallRefused Busy ∷ []) else if other then says_only s (InstallRefused (adopt_cause s.world) ∷ []) else install_now s l tries).after.duo ≡ s.duo
+    by : (busy other : Bool) → (if busy then says_only s (InstallRefused Busy ∷ []) else if other then says_only s (InstallRefused (refusal_cause s.world l) ∷ []) else install_now s l tries).after.duo ≡ s.duo
     by true other = refl
     by false true = refl
     by false false = refl

@@ -1,20 +1,24 @@
 -- A change of one channel leaves the others: what they hold, and what limbo holds of them.
-use Rattle.std.proofs.Common.{◌≡◌, ◌≢◌, ℕ, Bool, true, false, not, ◌&&◌, List, [], ◌∷◌, ◌++◌, Option, Some, None, is_some, nat_eq, refl, sym, ap, subst, ◌∙◌, arith, append-nil, if◌then◌else◌}
+use Rattle.std.proofs.Common.{◌≡◌, ◌≢◌, ◌+◌, ◌*◌, ◌/◌, ℕ, zero, suc, Bool, true, false, not, ◌&&◌, List, [], ◌∷◌, ◌++◌, get_or, Option, Some, None, is_some, nat_eq, refl, sym, ap, subst, ◌∙◌, arith, append-nil, if◌then◌else◌}
 use Rattle.std.proofs.lemmas.Bool.Decides.{nat_tests}
 use Rattle.std.specs.List.{filter}
 use Rattle.std.specs.Map.{lookup, remove_entry}
 use Rattle.packet_defs.specs.Burst.{flipped, may_flip}
 use Rattle.gm_defs.proofs.Found.{filter-append, filter-none}
 use Rattle.link_defs.specs.Links.{Held, Caught, LinkState, packet_in, with_packet, emptied, put}
-use Rattle.link_defs.specs.Fault.{caught_as, is_used_up, repeat, repeat_of, hold, hold_of, flip, flip_of, released, replay_of, with_caught}
+use Rattle.net_defs.specs.declared.vertex.End.{End}
+use Rattle.cable_history.specs.History.{may_plug, with_plugged}
+use Rattle.cable_history.specs.Crossed.{leaving}
+use Rattle.link_defs.specs.Fault.{caught_as, is_used_up, repeat, repeat_of, hold, hold_of, flip, flip_of, released, replay_of, with_caught, without_cable, pulled, pull_by, plug}
 use Rattle.link_defs.specs.declared.replayed.Replayed.{Replayed}
 use Rattle.link_defs.specs.declared.replayed.Replayed.TheVariants.{Back, Busy}
 use Rattle.world_defs.specs.declared.fault.Fault.{Fault}
-use Rattle.world_defs.specs.declared.fault.Fault.TheVariants.{Lose as LoseFault, Repeat as RepeatFault, Hold as HoldFault, Flip as FlipFault}
+use Rattle.world_defs.specs.declared.fault.Fault.TheVariants.{Lose as LoseFault, Repeat as RepeatFault, Hold as HoldFault, Flip as FlipFault, Pull as PullFault}
 use Rattle.world_defs.specs.Node.{Outgoing}
 use Rattle.world_defs.specs.World.{WorldState}
 use Rattle.world_defs.specs.Step.{fault_on, sent_out, planned_strikes}
 use Rattle.world_defs.proofs.Lists.{each-set}
+use Rattle.world_defs.proofs.Kept.{sent-cables}
 use Rattle.world_defs.proofs.Strikes.{Strike, strike_view, fault_on-step}
 use Rattle.promise_laws.specs.OneAction.{was_in, ChannelStays}
 
@@ -110,11 +114,57 @@ flip-same s c bit pattern = of (packet_in s c)
     of None = all-same s c
     of (Some held) = by held (not held.marked && may_flip held.wire bit pattern)
 
-fault-same : (s : LinkState) (c : ℕ) (f : Fault) → SameBut s (fault_on s c f).1 c
-fault-same s c LoseFault = with_packet-same s c None
-fault-same s c RepeatFault = repeat-same s c
-fault-same s c HoldFault = hold-same s c
-fault-same s c (FlipFault bit pattern) = flip-same s c bit pattern
+-- a pull leaves the channels of other cables
+kept-in : (es : List (ℕ × Caught)) (c k : ℕ) → c / 2 ≢ k → filter (was_in c) (without_cable k es) ≡ filter (was_in c) es
+kept-in [] c k n = refl
+kept-in (x ∷ es) c k n = by (nat_eq x.1.channel c) (nat_eq (x.1.channel / 2) k) refl refl (kept-in es c k n)
+  where
+    by : (mine cut : Bool) → nat_eq x.1.channel c ≡ mine → nat_eq (x.1.channel / 2) k ≡ cut → filter (was_in c) (without_cable k es) ≡ filter (was_in c) es
+        → filter (was_in c) (if not cut then x ∷ without_cable k es else without_cable k es) ≡ (if mine then x ∷ filter (was_in c) es else filter (was_in c) es)
+    by true true e f rest =
+        let here : x.1.channel ≡ c = grind (arith, nat_tests) in
+        let half : x.1.channel / 2 ≡ k = grind (arith, nat_tests) in
+        absurd (n (ap (λ j. j / 2) (sym here) ∙ half))
+    by false true e f rest = rest
+    by mine false e f rest = ap (λ t. if t then x ∷ filter (was_in c) (without_cable k es) else filter (was_in c) (without_cable k es)) e ∙ ap (λ l. if mine then x ∷ l else l) rest
+
+pub pulled-same : (s : LinkState) (k c : ℕ) → c / 2 ≢ k → ChannelStays s (pulled s k) c
+pulled-same s k c n =
+    let first : c ≢ 2 * k = λ e. n (omega (arith, e)) in
+    let second : c ≢ 2 * k + 1 = λ e. n (omega (arith, e)) in
+    let one = with_packet-same s (2 * k) None c first in
+    let two = with_packet-same (emptied s (2 * k)) (2 * k + 1) None c second in
+    record { packet = two.packet ∙ one.packet; limbo = kept-in s.limbo c k n }
+
+-- a plug leaves all that are there
+grown-same : (ps : List (Option Held)) (c : ℕ) → get_or (ps ++ None ∷ None ∷ []) c None ≡ get_or ps c None
+grown-same [] zero = refl
+grown-same [] (suc zero) = refl
+grown-same [] (suc (suc c)) = refl
+grown-same (p ∷ ps) zero = refl
+grown-same (p ∷ ps) (suc c) = grown-same ps c
+
+pub plugged-same : (s : LinkState) (a b : End) (c : ℕ) → ChannelStays s (plug s a b).1 c
+plugged-same s a b c = by (may_plug s.cables a b)
+  where
+    by : (t : Bool) → ChannelStays s (if t then (let r : Bool × LinkState = (true, record s { cables = with_plugged s.cables a b; channels = s.channels ++ None ∷ None ∷ [] }) in r) else (false, s)).1 c
+    by true = record { packet = grown-same s.channels c; limbo = refl }
+    by false = channel-same s c
+
+-- no planned pull takes the cable of this channel
+abbrev pub IsUncut : LinkState → Fault → ℕ → Type 0
+IsUncut s f k = (at : End) (d : ℕ) → f ≡ PullFault at → leaving s.cables at ≡ Some d → k / 2 ≡ d / 2 → ⊥
+
+pull-same : (s : LinkState) (at : End) (o : Option ℕ) (k : ℕ) → leaving s.cables at ≡ o → IsUncut s (PullFault at) k → ChannelStays s (pull_by s o).1 k
+pull-same s at None k e not_cut = channel-same s k
+pull-same s at (Some d) k e not_cut = pulled-same s (d / 2) k (λ same. not_cut at d refl e same)
+
+fault-same : (s : LinkState) (c : ℕ) (f : Fault) (k : ℕ) → k ≢ c → IsUncut s f k → ChannelStays s (fault_on s c f).1 k
+fault-same s c LoseFault k n not_cut = with_packet-same s c None k n
+fault-same s c RepeatFault k n not_cut = repeat-same s c k n
+fault-same s c HoldFault k n not_cut = hold-same s c k n
+fault-same s c (FlipFault bit pattern) k n not_cut = flip-same s c bit pattern k n
+fault-same s c (PullFault at) k n not_cut = pull-same s at (leaving s.cables at) k refl not_cut
 
 -- a replay is of the channel that the packet was in
 pub replay-same : (s : LinkState) (serial : ℕ) (caught : Caught) → caught_as s serial ≡ Some caught → SameBut s (replay_of s serial (Some caught)).1 caught.channel
@@ -130,11 +180,25 @@ replay-same s serial caught e = by (is_some (packet_in s caught.channel))
     by true = all-same s caught.channel
     by false = out
 
-strike-same : {w v : WorldState} {c : ℕ} → Strike w c v → SameBut w.links v.links c
-strike-same {w = w} {c = c} (Strike.spares e) = all-same w.links c
-strike-same {w = w} {c = c} (Strike.misses f e k) = all-same w.links c
-strike-same {w = w} {c = c} (Strike.strikes f e k) = subst (λ l. SameBut w.links l c) (fault_on-step w.links c f) (fault-same w.links c f)
+-- no fault that is planned for the last injection does
+abbrev pub IsSpared : WorldState → ℕ → Type 0
+IsSpared w k = (f : Fault) → lookup (nat_eq w.injected) w.plan ≡ Some f → IsUncut w.links f k
 
-pub injection-same : (w : WorldState) (h c : ℕ) (out : Outgoing) → SameBut w.links (planned_strikes (sent_out w h c out) c).links c
+strike-same : {w v : WorldState} {c : ℕ} → Strike w c v → (k : ℕ) → k ≢ c → IsSpared w k → ChannelStays w.links v.links k
+strike-same {w = w} {c = c} (Strike.spares e) k n spared = channel-same w.links k
+strike-same {w = w} {c = c} (Strike.misses f e d) k n spared = channel-same w.links k
+strike-same {w = w} {c = c} (Strike.strikes f e d) k n spared = subst (λ l. ChannelStays w.links l k) (fault_on-step w.links c f) (fault-same w.links c f k n (spared f e))
+
+sent-same : (w : WorldState) (h c : ℕ) (out : Outgoing) → SameBut w.links (sent_out w h c out).links c
 unfolding sent_out
-injection-same w h c out = same-then w.links (sent_out w h c out).links _ c (put-same w.links c _) (strike-same (strike_view (sent_out w h c out) c))
+sent-same w h c out = put-same w.links c _
+
+pub sent-plan : (w : WorldState) (h c : ℕ) (out : Outgoing) → lookup (nat_eq (sent_out w h c out).injected) (sent_out w h c out).plan ≡ lookup (nat_eq (w.injected + 1)) w.plan
+unfolding sent_out
+sent-plan w h c out = refl
+
+pub injection-same : (w : WorldState) (h c : ℕ) (out : Outgoing) (k : ℕ) → k ≢ c → ((f : Fault) → lookup (nat_eq (w.injected + 1)) w.plan ≡ Some f → IsUncut w.links f k) → ChannelStays w.links (planned_strikes (sent_out w h c out) c).links k
+injection-same w h c out k n spared =
+    let one = sent-same w h c out k n in
+    let two = strike-same (strike_view (sent_out w h c out) c) k n (λ f e at d is to. spared f (sym (sent-plan w h c out) ∙ e) at d is (sym (ap (λ h. leaving h at) (sent-cables w h c out)) ∙ to)) in
+    record { packet = two.packet ∙ one.packet; limbo = two.limbo ∙ one.limbo }

@@ -43,7 +43,7 @@ use Rattle.run_defs.specs.Circuit.IsCircuitTold.{whole, too_many_nodes}
 use Rattle.run_defs.specs.Duos.{begun}
 use Rattle.run_defs.specs.Output.{Piece, OneLine, MapLines, lines}
 use Rattle.run_defs.specs.Session.{SessionState, LastMap, LastRoutes, complete_map}
-use Rattle.run_defs.specs.Outcome.{Outcome, says_only, called, on_channel, event_of, fault_of, stepped, step_or_idle, token_lines, table_line, install_done, install_now, install, map_refused, routes_refused, duo_done, outcome, set_of, adopt_cause}
+use Rattle.run_defs.specs.Outcome.{Outcome, says_only, called, on_channel, event_of, fault_of, stepped, step_or_idle, token_lines, table_line, install_done, install_now, install, map_refused, routes_refused, duo_done, outcome, set_of, may_install, refusal_cause}
 use Rattle.run_defs.specs.Run.{Does, Runs, IsRun, map_pieces, route_line, rank_line, routes_lines}
 use Rattle.run_defs.specs.Run.Does.{determined, maps, circuits, routes}
 use Rattle.run_defs.specs.Run.Runs.{ended, goes_on}
@@ -221,9 +221,9 @@ install-now-shows s l tries =
 
 install-shows : (s : SessionState) (tries : ℕ) (o : Option LastRoutes) → Shows s.world (Install tries) (install s tries o).output (install_acts s.world tries o)
 install-shows s tries None = quiet-shows s.world (Install tries) _ refl tt
-install-shows s tries (Some l) = by (not (is_idle s.world.links)) (not (may_adopt s.world l.routes))
+install-shows s tries (Some l) = by (not (is_idle s.world.links)) (not (may_install s.world l))
   where
-    by : (busy other : Bool) → Shows s.world (Install tries) (if busy then says_only s (InstallRefused Busy ∷ []) else if other then says_only s (InstallRefused (adopt_cause s.world) ∷ []) else install_now s l tries).output
+    by : (busy other : Bool) → Shows s.world (Install tries) (if busy then says_only s (InstallRefused Busy ∷ []) else if other then says_only s (InstallRefused (refusal_cause s.world l) ∷ []) else install_now s l tries).output
         (if busy then [] else if other then [] else install_now_acts s.world l tries)
     by true other = quiet-shows s.world (Install tries) _ refl tt
     by false true = quiet-shows s.world (Install tries) _ refl tt
@@ -303,13 +303,13 @@ still-showing s cmd out none other silent = record { acts = []; are = told none;
 does-show : {s next : SessionState} {cmd : Command} {out : List Piece} → Does s cmd out next → Showing s cmd out
 does-show {s = s} {next = next} {cmd = cmd} {out = out} (determined e) = determined-shows s cmd (record { output = out; after = next }) e
 does-show {s = s} {out = out} (maps {host = host} {depth = depth} {tries = tries} after j m words none made printed left) =
-    let l : Log log.AskedAll = log.asks host tries (map (λ e. e.walk) j) s.world in
+    let l : Log log.AskedAll = log.asks s.world.links.cables.changes host tries (map (λ e. e.walk) j) s.world in
     let silent : IsSilent out = subst IsSilent (sym printed) (silent-then _ (map_pieces words m) tt (pieces-silent words m)) in
     record {
       acts = map Happens l.events;
       are = asks after j m words (idle-there s host none) made refl;
       shows = silent-shows s.world (Map host depth tries) out (map Happens l.events) refl silent
-          (calm-still s.world l.events (asks-row calm-asks (λ h walk looped. tt) host tries (map (λ e. e.walk) j) s.world).kinds);
+          (calm-still s.world l.events (asks-row calm-asks (λ h walk looped. tt) s.world.links.cables.changes host tries (map (λ e. e.walk) j) s.world).kinds);
     }
 does-show {s = s} {cmd = cmd} {out = out} (circuits so left) = still-showing s cmd out refl refl (circuit-silent so)
 does-show {s = s} {cmd = cmd} {out = out} (routes l found complete are printed left) = still-showing s cmd out refl refl (subst IsSilent (sym printed) (routes-silent l.made found))

@@ -7,7 +7,8 @@ use Rattle.net_defs.proofs.Distinct.{all-push}
 use Rattle.run_defs.specs.declared.command.Command.{Command}
 use Rattle.run_defs.specs.declared.command.Command.TheVariants.{Walk, Map, Circuit, Routes, Install, Begin, Close, Poll, Tokens, Provide, Send, Plan, Step, Settle, Finish, Duo}
 use Rattle.run_defs.specs.declared.line.Line.TheVariants.{Map as MapLine}
-use Rattle.run_defs.specs.Circuit.{IsCircuitTold}
+use Rattle.cable_history.proofs.Now.{now_is_fabric}
+use Rattle.world_defs.specs.World.{fabric_of}
 use Rattle.run_defs.specs.Output.{Piece, OneLine, lines}
 use Rattle.run_defs.specs.Session.{SessionState, LastMap, complete_map, new_session}
 use Rattle.run_defs.specs.Outcome.{Outcome, outcome, routes_refused}
@@ -32,20 +33,20 @@ routes-done : (n : Network) (s : SessionState) → IsLed n s → (o : Option Las
 routes-done n s led None p e = cc
 routes-done n s led (Some l) p e =
     let k = led.holds.complete l p in
-    let found = routes_exist l.made k.rules k.connected in
-    let left : SessionState = record s { last_routes = Some (record { mapper = l.mapper; hosts = hosts_by_address s.world l.made; routes = found.0 }) } in
+    let found = routes_exist l.made k.right.rules k.right.connected in
+    let left : SessionState = record s { last_routes = Some (record { mapper = l.mapper; hosts = hosts_by_address s.world l.made; routes = found.0; began = l.began }) } in
     done {next = left} {out = lines (routes_lines l.made found.0)} (routes l found.0 p found.1 refl refl)
 
 -- a command that isn't determined: a map, a map of circuit links, or routes
 undetermined : (n : Network) (s : SessionState) (c : Command) → IsFabric n → IsActOf n c → IsLed n s → outcome s c ≡ None → HasDone s c
 undetermined n s (Map host depth tries) f of_n led e =
-    let h = mapping_exists host depth tries s.world (can-map-now n s host depth tries f of_n led.session e) in
-    let left : SessionState = record s { world = h.after; last_map = Some (record { mapper = host; words = h.words; made = h.made }) } in
+    let h = mapping_exists host depth tries s.world (can-map-now n s host depth tries of_n led.session e) in
+    let left : SessionState = record s { world = h.after; last_map = Some (record { mapper = host; words = h.words; made = h.made; began = s.world.links.cables.changes }) } in
     let out : List Piece = OneLine (MapLine host h.words (length h.journal) (h.after.injected - s.world.injected)) ∷ map_pieces h.words h.made in
     done {next = left} {out = out} (maps h.after h.journal h.made h.words e h.is refl refl)
 undetermined n s (Circuit host depth) f of_n led e =
-    let t = circuit_is_told n host depth f in
-    done {next = s} {out = t.out} (circuits (subst (λ k. IsCircuitTold k host depth t.out) (sym led.session.fabric) t.told) refl)
+    let t = circuit_is_told (fabric_of s.world) host depth (now_is_fabric s.world.links.cables led.session.history) in
+    done {next = s} {out = t.out} (circuits t.told refl)
 undetermined n s Routes f of_n led e = routes-done n s led (complete_map s.last_map) refl e
 undetermined n s (Walk host walk) f of_n led e = cc
 undetermined n s (Install tries) f of_n led e = cc

@@ -9,7 +9,7 @@ use Rattle.act_defs.specs.Acts.{AreAdoptable}
 use Rattle.table_laws.specs.Examples.{adopted_world}
 use Rattle.table_laws.proofs.Dependencies.{adopted-adoptable}
 use Rattle.table_laws.proofs.TwoHosts.{adopted-reached}
-use Rattle.promise_laws.specs.Examples.{PacketGoesOn, PartsAreOfAdopters, ReplaysAreOfChannels, EpochsFollow, MessageIsInLines}
+use Rattle.promise_laws.specs.Examples.{PacketGoesOn, PartsAreOfAdopters, ReplaysAreOfChannels, PullsAreOfCables, EpochsFollow, MessageIsInLines}
 
 pub packet-goes_on : PacketGoesOn
 unfolding to_send packet_for after_sending begun sent_by planned_strikes sent_out injected advanced
@@ -22,6 +22,9 @@ parts-of_adopters = (refl, refl)
 pub replays-of_channels : ReplaysAreOfChannels
 unfolding to_send packet_for after_sending begun sent_by planned_strikes sent_out injected advanced held
 replays-of_channels = (refl, refl)
+
+pub pulls-of_cables : PullsAreOfCables
+pulls-of_cables = (refl, refl, refl)
 
 setup-adoptable : AreAdoptable two_hosts setup_routes
 setup-adoptable = (adopted-adoptable two_hosts adopted_world (record { mapper = 0; epoch = 1; at = 0; routes = setup_routes }) adopted-reached refl).1

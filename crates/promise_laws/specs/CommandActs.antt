@@ -7,7 +7,7 @@ use Rattle.journal_defs.specs.declared.entry.Entry.{Entry}
 use Rattle.map_defs.specs.NetMap.{NetMap}
 use Rattle.world_defs.specs.declared.event.Event.{Event}
 use Rattle.world_defs.specs.declared.event.Event.TheVariants.{Begin, Close, Provide, Send, Poll}
-use Rattle.world_defs.specs.World.{WorldState, adopted_by, may_adopt}
+use Rattle.world_defs.specs.World.{WorldState, adopted_by}
 use Rattle.world_defs.specs.Sound.{IsSound}
 use Rattle.message_laws.specs.Filling.{HasTiedParts}
 use Rattle.act_defs.specs.Acts.{Act, Happens, Plans, Adopts, acted_all, MayActAll}
@@ -20,7 +20,7 @@ use Rattle.run_defs.specs.declared.line.MapWords.{MapWords}
 use Rattle.run_defs.specs.Mapped.{IsMapped}
 use Rattle.run_defs.specs.Output.{Piece}
 use Rattle.run_defs.specs.Session.{SessionState, LastRoutes}
-use Rattle.run_defs.specs.Outcome.{event_of, fault_of, set_of}
+use Rattle.run_defs.specs.Outcome.{event_of, fault_of, set_of, may_install}
 use Rattle.run_defs.specs.Run.{Does, IsRun}
 use Rattle.run_laws.specs.Acts.{IsActOf}
 use Rattle.world_defs.specs.Logs as log
@@ -40,7 +40,7 @@ install_now_acts w l tries = Adopts l.mapper l.routes
 abbrev pub install_acts : WorldState → ℕ → Option LastRoutes → List Act
 install_acts w tries None = []
 install_acts w tries (Some l) =
-    if not (is_idle w.links) then [] else if not (may_adopt w l.routes) then [] else install_now_acts w l tries
+    if not (is_idle w.links) then [] else if not (may_install w l) then [] else install_now_acts w l tries
 
 -- The session determines which acts a command stands for, except those of a map that is made.
 abbrev pub acts_of : SessionState → Command → Option (List Act)
@@ -67,7 +67,7 @@ pub data StandsFor (s : SessionState) : Command → List Act → Type 0 where
   asks : {host depth tries : ℕ} {acts : List Act} → (after : WorldState) (j : List Entry) (m : NetMap)
       (words : MapWords)
       → is_idle s.world.links ≡ true → IsMapped host depth tries s.world after j m words
-      → acts ≡ map Happens (log.asks host tries (map (λ e. e.walk) j) s.world).events
+      → acts ≡ map Happens (log.asks s.world.links.cables.changes host tries (map (λ e. e.walk) j) s.world).events
       → StandsFor s (Map host depth tries) acts
 
 -- A command that is done stands for one list of acts. They may happen one after another, and lead to the world after

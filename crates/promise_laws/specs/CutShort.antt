@@ -35,12 +35,12 @@ pub record IsCutShort (s : SessionState) (c : Command) (v : WorldState) : Type 0
 -- asks of a journal that grows to its depth, or within the next one.
 pub data IsBegunMap (host depth tries : ℕ) (w v : WorldState) : Type 0 where
   stopped_between : (j : List Entry) → IsGrowing host depth j → (length (nodes j) ≤ node_limit) ⊎ IsEndedAtLimit j
-      → (log.asks host tries (map (λ e. e.walk) j) w).value.entries ≡ j
-      → v ≡ (log.asks host tries (map (λ e. e.walk) j) w).world → IsBegunMap host depth tries w v
+      → (log.asks w.links.cables.changes host tries (map (λ e. e.walk) j) w).value.entries ≡ j
+      → v ≡ (log.asks w.links.cables.changes host tries (map (λ e. e.walk) j) w).world → IsBegunMap host depth tries w v
   stopped_within : (j : List Entry) (x : List ℤ) (between : WorldState) → IsGrowing host depth j
-      → length (nodes j) ≤ node_limit → (log.asks host tries (map (λ e. e.walk) j) w).value.entries ≡ j
-      → between ≡ (log.asks host tries (map (λ e. e.walk) j) w).world → NextAsk host depth j x
-      → IsPartWay between (log.ask host tries x between).events v → IsBegunMap host depth tries w v
+      → length (nodes j) ≤ node_limit → (log.asks w.links.cables.changes host tries (map (λ e. e.walk) j) w).value.entries ≡ j
+      → between ≡ (log.asks w.links.cables.changes host tries (map (λ e. e.walk) j) w).world → NextAsk host depth j x
+      → IsPartWay between (log.ask w.links.cables.changes host tries x between).events v → IsBegunMap host depth tries w v
 
 -- Where a map can be made, one that was begun and stopped is the command cut short: its asks are the first ones of the
 -- one map that there is.

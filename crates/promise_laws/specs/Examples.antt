@@ -2,7 +2,7 @@
 -- has adopted routes and sends a message to host 1.
 use Rattle.std.specs.Prelude.{◌≡◌, ℕ, List, [], ◌∷◌, map, Option, Some, option_map}
 use Rattle.std.specs.List.{filter}
-use Rattle.net_defs.specs.Examples.{two_hosts}
+use Rattle.net_defs.specs.Examples.{two_hosts, host_end, switch_end}
 use Rattle.link_defs.specs.declared.moved.Course.{Course}
 use Rattle.link_defs.specs.declared.moved.Course.TheVariants.{Arrives, Enters}
 use Rattle.link_defs.specs.Links.{packet_in}
@@ -11,7 +11,7 @@ use Rattle.gm_defs.specs.declared.message.Message.{Message}
 use Rattle.gm_defs.specs.Connection.{connection}
 use Rattle.world_defs.specs.declared.client.ClientCause.TheVariants.{NoToken}
 use Rattle.world_defs.specs.declared.effect.Said.TheVariants.{Refused}
-use Rattle.world_defs.specs.declared.event.Event.TheVariants.{Part, Inject, Advance, Hold, Replay, Revoke, Begin, Send}
+use Rattle.world_defs.specs.declared.event.Event.TheVariants.{Part, Inject, Advance, Hold, Replay, Revoke, Begin, Send, Pull, Plug}
 use Rattle.world_defs.specs.Table.{active_epoch}
 use Rattle.world_defs.specs.World.{WorldState, new_world, node_at, epoch_of}
 use Rattle.world_defs.specs.Examples.{setup_routes}
@@ -24,7 +24,7 @@ use Rattle.run_defs.specs.Output.{OneLine}
 use Rattle.run_defs.specs.Examples.{message_output}
 use Rattle.seen_laws.specs.Handed.{Handed, is_to, as_handed}
 use Rattle.promise_laws.specs.ReceivedLines.{received_in, accepted_of}
-use Rattle.promise_laws.specs.OneAction.{OfHost, OfChannel, OfNone, actor_of}
+use Rattle.promise_laws.specs.OneAction.{OfHost, OfChannel, OfCable, OfNone, actor_of}
 
 -- host 0 has put its message into its channel
 abbrev pub sent_acts : List Act
@@ -53,6 +53,13 @@ abbrev pub ReplaysAreOfChannels : Type 0
 ReplaysAreOfChannels =
     (actor_of (acted_all sent_world (Happens (Advance 0) ∷ Happens (Hold 3) ∷ [])) (Happens (Replay 0)) ≡ OfChannel 3)
     × (actor_of sent_world (Happens (Replay 0)) ≡ OfNone)
+
+-- a pull is of the cable at its port, and of none where there is no cable; a plug is of none
+abbrev pub PullsAreOfCables : Type 0
+PullsAreOfCables =
+    (actor_of (new_world two_hosts) (Happens (Pull (switch_end 0 5))) ≡ OfCable 1)
+    × (actor_of (new_world two_hosts) (Happens (Pull (switch_end 0 6))) ≡ OfNone)
+    × (actor_of (new_world two_hosts) (Happens (Plug (switch_end 0 6) (switch_end 0 7))) ≡ OfNone)
 
 -- both hosts give up the first epoch, and host 1 adopts the routes again
 abbrev pub next_epoch : List Act

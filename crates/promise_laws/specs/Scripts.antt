@@ -4,9 +4,8 @@ use Rattle.net_defs.specs.Network.{Network, IsFabric}
 use Rattle.journal_defs.specs.declared.entry.Entry.{Entry}
 use Rattle.journal_defs.specs.Depth.{enough_depth}
 use Rattle.map_defs.specs.NetMap.{NetMap}
-use Rattle.map_defs.specs.Sameness.{IsMapOfPart}
 use Rattle.net_defs.specs.Dependencies.{IsBefore, HasNoCycle}
-use Rattle.world_defs.specs.World.{WorldState}
+use Rattle.world_defs.specs.World.{WorldState, fabric_of}
 use Rattle.world_defs.specs.Sound.{installed_channels}
 use Rattle.act_defs.specs.Acts.{IsReached}
 use Rattle.run_defs.specs.declared.command.Command.{Command}
@@ -17,15 +16,15 @@ use Rattle.run_defs.specs.Output.{Piece}
 use Rattle.run_defs.specs.Script.{script_reading}
 use Rattle.run_defs.specs.Session.{SessionState}
 use Rattle.run_defs.specs.Run.{IsRun}
-use Rattle.run_defs.specs.Headline.{HasPrinted, IsQuiet}
+use Rattle.run_defs.specs.Headline.{HasPrinted, WasTrue, IsQuiet}
 
--- Every map that its run prints under the word complete is the mapper's part of the fabric.
+-- Every map that its run prints under the word complete was the mapper's part of the fabric before its command.
 abbrev pub ScriptMapsAreTrue : Type 0
 ScriptMapsAreTrue =
     (n : Network) (line : ℕ) (text : List ℕ) (commands : List Command) (out : List Piece) (last : SessionState)
     (mapper : ℕ) (m : NetMap)
-    → IsFabric n → script_reading n line text ≡ Ok commands → IsRun n commands out last → HasPrinted out mapper m
-    → IsMapOfPart n mapper m
+    → IsFabric n → script_reading n line text ≡ Ok commands → IsRun n commands out last
+    → (printed : HasPrinted out mapper m) → WasTrue n commands printed.before mapper m
 
 -- After its run, on a quiet fabric, a map from a host of the fabric to the depth that suffices, of at most 65
 -- cables, with 1 to 8 tries an ask, says complete.
@@ -36,7 +35,7 @@ DeepMapsOfScriptsAreComplete =
     → IsFabric n → script_reading n line text ≡ Ok commands → IsRun n commands out s
     → host < length n.hosts → depth ≤ 65 → IsMapped host depth tries s.world after j m words
     → IsQuiet host s.world after
-    → 1 ≤ tries → tries ≤ 8 → enough_depth n host ≤ depth → words ≡ Complete
+    → 1 ≤ tries → tries ≤ 8 → enough_depth (fabric_of s.world) host ≤ depth → words ≡ Complete
 
 -- Acts that may happen lead to the world after its run.
 abbrev pub ScriptIsReached : Type 0

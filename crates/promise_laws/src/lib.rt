@@ -8,7 +8,7 @@
 //! | `CommandActs` | which acts a command stands for, and that after each prefix of them the world is sound |
 //! | `CutShort` | that a command is cut short, and a map that was begun |
 //! | `Duos` | what a command depends on, of the two hosts that restart, and what they come to in a run |
-//! | `OneAction` | whose an act is, and that it is one action, of one host or of one channel |
+//! | `OneAction` | whose an act is, and that it is one action, of one host, of one channel or of one cable |
 //! | `Existence` | each command does something after every run, and so there is a run |
 //! | `ReceivedLines` | what lines `received` show, against the `send` lines that have a token: once, in order, byte for byte |
 //! | `Promised` | every moment is sound, and every run keeps its promise |
@@ -24,7 +24,7 @@ mod received_lines;
 mod scripts;
 mod worked;
 
-pub use command_acts::{acts_of_commands, acts_of_cut_commands, acts_of_one_host_or_channel};
+pub use command_acts::{acts_of_commands, acts_of_cut_commands, acts_of_one_actor};
 pub use duo_lines::{dependence_on_the_duo, duos_of_runs};
 pub use existence::runs_exist;
 pub use promises::{promises_of_runs, sound_moments};

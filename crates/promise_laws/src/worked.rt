@@ -2,13 +2,15 @@
 //! statements.
 
 ghost use Rattle.promise_laws.specs.Examples.{PacketGoesOn, PartsAreOfAdopters, ReplaysAreOfChannels};
-ghost use Rattle.promise_laws.specs.Examples.{EpochsFollow, MessageIsInLines};
+ghost use Rattle.promise_laws.specs.Examples.{PullsAreOfCables, EpochsFollow, MessageIsInLines};
 
-/// A message goes through the switch; a part is its adopter's, and a replay the channel's that the packet was held in.
+/// A message goes through the switch; a part is its adopter's, a replay the channel's that the packet was held in,
+/// and a pull the cable's that is taken out.
 pub fn actors_of_acts()
     ensures goes { PacketGoesOn }
     ensures parts { PartsAreOfAdopters }
     ensures replays { ReplaysAreOfChannels }
+    ensures pulls { PullsAreOfCables }
 {}
 
 /// A second epoch begins once both hosts gave up the first, and not before.

@@ -12,11 +12,11 @@ use Rattle.injection_bounds.specs.Settled.{pledged}
 use Rattle.injection_bounds.proofs.Asking.{ask-costs}
 
 -- asks in a row
-pub asks-cost : (host tries : ℕ) (walks : List (List ℤ)) (w : WorldState) → tries ≤ 8 → pledged (log.asks host tries walks w).world ≤ pledged w + 32 * length walks
-asks-cost host tries [] w few = omega arith
-asks-cost host tries (walk ∷ walks) w few =
-    let one = ask-costs w host tries walk few in
-    let rest = asks-cost host tries walks (log.ask host tries walk w).world few in
+pub asks-cost : (made host tries : ℕ) (walks : List (List ℤ)) (w : WorldState) → tries ≤ 8 → pledged (log.asks made host tries walks w).world ≤ pledged w + 32 * length walks
+asks-cost made host tries [] w few = omega arith
+asks-cost made host tries (walk ∷ walks) w few =
+    let one = ask-costs w made host tries walk few in
+    let rest = asks-cost made host tries walks (log.ask made host tries walk w).world few in
     omega (arith, one, rest)
 
 -- a last entry is one node more at most

@@ -9,6 +9,7 @@ use Rattle.net_defs.specs.declared.route.Route.{Route}
 use Rattle.net_defs.specs.Network.{Network, IsFabric}
 use Rattle.net_defs.specs.Route.{place}
 use Rattle.net_defs.specs.RouteSet.{route_below, AreRising}
+use Rattle.cable_history.specs.History.{CableHistory, fabric_at}
 use Rattle.mapping_defs.specs.Mapping.{RouteEntry}
 use Rattle.world_defs.specs.Table.{Adoption, part_count, entries_from}
 use Rattle.world_defs.specs.World.{WorldState}
@@ -107,7 +108,8 @@ all-low : (n : Network) (rs : List Route) → IsFabric n → AllByRecursion (λ 
 all-low n [] f all = tt
 all-low n (r ∷ rs) f all = (place-there n r.from r.to r.walk f all.0, all-low n rs f all.1)
 
-pub set-parts : (n : Network) (w : WorldState) (l : LastRoutes) → IsFabric n → IsSetOfMap n l → HasFewParts (set_of w l)
-set-parts n w l f k =
+pub set-parts : (h : CableHistory) (w : WorldState) (l : LastRoutes) → IsFabric (fabric_at h l.began) → IsSetOfMap h l → HasFewParts (set_of w l)
+set-parts h w l f k =
+    let n : Network = fabric_at h l.began in
     let may : AreAdoptable n l.routes = right_routes_are_adoptable n l.mapper k.made l.routes f k.rules k.right k.routes in
     few-parts n (set_of w l) f k.routes.in_order (all-low n l.routes f may.lead)

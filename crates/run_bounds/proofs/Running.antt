@@ -6,6 +6,7 @@ use Rattle.std.proofs.lemmas.List.FromFn.{length-range_with_len}
 use Rattle.std.specs.Prelude.{nat_eq, ℤ}
 use Rattle.net_defs.specs.Network.{Network, IsFabric}
 use Rattle.net_defs.proofs.Distinct.{all-weaker, all-push}
+use Rattle.cable_history.specs.History.{fabric_at}
 use Rattle.link_defs.specs.Links.{is_idle}
 use Rattle.map_defs.specs.NetMap.{NetMap, hosts_of}
 use Rattle.duo_defs.specs.declared.effect.DuoEffect.{DuoEffect}
@@ -14,7 +15,7 @@ use Rattle.duo_defs.specs.Step.{step as duo_step}
 use Rattle.world_defs.specs.declared.event.Event.{Event}
 use Rattle.world_defs.specs.declared.event.Event.TheVariants.{Begin, Close, Provide, Send, Poll}
 use Rattle.world_defs.specs.declared.effect.Effect.{Effect}
-use Rattle.world_defs.specs.World.{WorldState, host_count, addresses, adopted_by, may_adopt}
+use Rattle.world_defs.specs.World.{WorldState, host_count, addresses, adopted_by}
 use Rattle.world_defs.specs.Step.{step}
 use Rattle.world_defs.specs.Log.{Log}
 use Rattle.world_defs.specs.Logs as log
@@ -26,14 +27,14 @@ use Rattle.run_defs.specs.declared.line.Line.TheVariants.{MapBusy, InstallRefuse
 use Rattle.run_defs.specs.declared.line.InstallCause.TheVariants.{Busy}
 use Rattle.run_defs.specs.Output.{Piece}
 use Rattle.run_defs.specs.Session.{SessionState, LastMap, LastRoutes, complete_map}
-use Rattle.run_defs.specs.Outcome.{Outcome, says_only, event_of, stepped, step_or_idle, fault_of, install_done, install_now, install, map_refused, routes_refused, duo_done, outcome, set_of, adopt_cause}
+use Rattle.run_defs.specs.Outcome.{Outcome, says_only, event_of, stepped, step_or_idle, fault_of, install_done, install_now, install, map_refused, routes_refused, duo_done, outcome, set_of, may_install, refusal_cause}
 use Rattle.run_defs.specs.Duos.{begun}
 use Rattle.run_defs.specs.Run.{Does, Runs, IsRun, hosts_by_address}
 use Rattle.run_defs.specs.Run.Does.{determined, maps, circuits, routes}
 use Rattle.run_defs.specs.Run.Runs.{ended, goes_on}
 use Rattle.fab_script.specs.Ranges.{IsCommandOf}
 use Rattle.run_laws.specs.Acts.{IsActOf}
-use Rattle.run_laws.proofs.Reaching.{run_is_reached}
+use Rattle.run_laws.proofs.Reaching.{run-led, run_is_reached}
 use Rattle.run_laws.proofs.RunsOnce.{runs-more}
 use Rattle.install_line_laws.proofs.Lines.{run-set}
 use Rattle.promise_laws.proofs.Said.{said-act}
@@ -88,9 +89,9 @@ install-now-costs s l tries few small =
 
 installs-cost : (s : SessionState) (tries : ℕ) (o : Option LastRoutes) → tries ≤ 8 → ((l : LastRoutes) → o ≡ Some l → IsSmall l) → CostsIn s (Some (install s tries o))
 installs-cost s tries None few small = nothing s
-installs-cost s tries (Some l) few small = by (not (is_idle s.world.links)) (not (may_adopt s.world l.routes))
+installs-cost s tries (Some l) few small = by (not (is_idle s.world.links)) (not (may_install s.world l))
   where
-    by : (busy other : Bool) → CostsIn s (Some (if busy then says_only s (InstallRefused Busy ∷ []) else if other then says_only s (InstallRefused (adopt_cause s.world) ∷ []) else install_now s l tries))
+    by : (busy other : Bool) → CostsIn s (Some (if busy then says_only s (InstallRefused Busy ∷ []) else if other then says_only s (InstallRefused (refusal_cause s.world l) ∷ []) else install_now s l tries))
     by true other = nothing s
     by false true = nothing s
     by false false = install-now-costs s l tries few (small l refl)
@@ -138,10 +139,10 @@ does-costs : {s next : SessionState} {c : Command} {out : List Piece} → (n : N
 does-costs {s = s} {c = c} n said r small (determined e) = (subst (CostsIn s) e (outcome-costs n s c said r small)).0
 does-costs {s = s} {next = next} n said r small (maps {host = host} {depth = depth} {tries = tries} after j m words none made printed left) =
     let walks : List (List ℤ) = map (λ e. e.walk) j in
-    let cost = asks-cost host tries walks s.world said.2.1 in
+    let cost = asks-cost s.world.links.cables.changes host tries walks s.world said.2.1 in
     let many : length walks ≡ length j = length-map j (λ e. e.walk) in
     let few = few-asks host depth j made.grown in
-    let same : pledged after ≡ pledged (log.asks host tries walks s.world).world = ap pledged made.led in
+    let same : pledged after ≡ pledged (log.asks s.world.links.cables.changes host tries walks s.world).world = ap pledged made.led in
     let last : pledged next.world ≡ pledged after = ap (λ (x : SessionState). pledged x.world) left in
     omega (arith, cost, many, few, same, last)
 does-costs {s = s} {next = next} n said r small (circuits told left) = let same : pledged next.world ≡ pledged s.world = ap (λ (x : SessionState). pledged x.world) left in omega (arith, same)
@@ -175,13 +176,15 @@ does-few {s = s} {c = c} n said r small few (determined e) = let k = (subst (Cos
 does-few n said r small few (maps after j m words none made printed left) = subst FewHosts (sym left) few
 does-few n said r small few (circuits told left) = subst FewHosts (sym left) few
 does-few {s = s} n said r small few (routes l found complete are printed left) =
-    subst FewHosts (sym left) (λ x is. kept-few (record { mapper = l.mapper; hosts = hosts_by_address s.world l.made; routes = found }) x (map-hosts n s.world l.made r) is)
+    subst FewHosts (sym left) (λ x is. kept-few (record { mapper = l.mapper; hosts = hosts_by_address s.world l.made; routes = found; began = l.began }) x (map-hosts n s.world l.made r) is)
 
 -- every run
 module _ (n : Network) (f : IsFabric n) where
   small-after : (done : List Command) (out : List Piece) (s : SessionState) → AllByRecursion (IsCommandOf n) done → IsRun n done out s → FewHosts s → KeepsSmall s
   small-after done out s said run few l is =
-      record { hosts = few l is; parts = λ w. set-parts n w l f (run-set n done out s l f (all-weaker (IsCommandOf n) (IsActOf n) done (said-act n) said) run is) }
+      let acts : AllByRecursion (IsActOf n) done = all-weaker (IsCommandOf n) (IsActOf n) done (said-act n) said in
+      let past : IsFabric (fabric_at s.world.links.cables l.began) = (run-led n done out s f acts run).session.history.fabrics l.began in
+      record { hosts = few l is; parts = λ w. set-parts s.world.links.cables w l past (run-set n done out s l f acts run is) }
 
   reached-after : (done : List Command) (out : List Piece) (s : SessionState) → AllByRecursion (IsCommandOf n) done → IsRun n done out s → IsReached n s.world
   reached-after done out s said run = run_is_reached n done out s f (all-weaker (IsCommandOf n) (IsActOf n) done (said-act n) said) run

@@ -27,7 +27,7 @@ use Rattle.run_defs.specs.Headline.{HasPrinted, IsQuiet}
 use Rattle.run_defs.specs.Examples.{setup_map, mapped_world, mapping, mapping_output, mapped_session, doubtful_world}
 use Rattle.world_defs.specs.Logs as log
 
-asks : (log.asks 0 1 (map (λ e. e.walk) two_hosts_journal) (new_world two_hosts)).value ≡ record { entries = two_hosts_journal; drowned = 0 }
+asks : (log.asks 0 0 1 (map (λ e. e.walk) two_hosts_journal) (new_world two_hosts)).value ≡ record { entries = two_hosts_journal; drowned = 0 }
 unfolding begun closed provided_by sent_by polled_by hear log.drain log.clear log.round_pass log.round log.settle log.sends log.host_try log.loop_try log.ask log.part_try log.install to_send packet_for after_sending lost was_reset repeated held flipped replayed asked part_staged planned_strikes sent_out injected advanced expired gave_up applied
 asks = refl
 

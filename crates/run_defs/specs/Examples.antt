@@ -47,7 +47,7 @@ abbrev pub installed_session : SessionState
 installed_session = record {
   world = setup;
   last_map = None;
-  last_routes = Some (record { mapper = 0; hosts = 0 ∷ 1 ∷ []; routes = setup_routes });
+  last_routes = Some (record { mapper = 0; hosts = 0 ∷ 1 ∷ []; routes = setup_routes; began = 0 });
   duo = None;
 }
 
@@ -92,7 +92,7 @@ restarting = map Duo
 
 -- the world after the asks of a map, from the first host on
 abbrev pub mapped_world : WorldState
-mapped_world = (log.asks 0 1 (map (λ e. e.walk) two_hosts_journal) (new_world two_hosts)).world
+mapped_world = (log.asks 0 0 1 (map (λ e. e.walk) two_hosts_journal) (new_world two_hosts)).world
 
 -- a script of one map
 abbrev pub mapping : List Command
@@ -106,7 +106,7 @@ mapping_output = OneLine (MapLine 0 Complete 31 62) ∷ MapLines setup_map ∷ O
 abbrev pub mapped_session : SessionState
 mapped_session = record {
   world = mapped_world;
-  last_map = Some (record { mapper = 0; words = Complete; made = setup_map });
+  last_map = Some (record { mapper = 0; words = Complete; made = setup_map; began = 0 });
   last_routes = None;
   duo = None;
 }

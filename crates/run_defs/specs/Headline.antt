@@ -1,5 +1,5 @@
--- What a run promises: a map that says complete is the mapper's part of the fabric; on a quiet fabric, probed deeply
--- enough, it says so; every moment is sound.
+-- What a run promises: a map that says complete is the mapper's part of the fabric as it stood before; on a quiet
+-- fabric, probed deeply enough, it says so; every moment is sound.
 use Rattle.std.specs.Prelude.{◌≡◌, ◌⊎◌, ℕ, ◌<◌, ◌≤◌, ◌^◌, true, List, ◌∷◌, ◌++◌, length}
 use Rattle.std.specs.List.{AllByRecursion}
 use Rattle.net_defs.specs.Network.{Network, IsFabric}
@@ -30,6 +30,23 @@ pub record HasPrinted (out : List Piece) (mapper : ℕ) (m : NetMap) : Type 0 wh
   pub packets : ℕ
   pub there : out ≡ before ++ OneLine (MapLine mapper Complete asks packets) ∷ MapLines m ∷ behind
 
+-- A command of a run, before which the run had printed these pieces: the commands before it had led to this session.
+pub record IsDoneAfter (n : Network) (commands : List Command) (before : List Piece) (c : Command) : Type 0 where
+  pub front : List Command
+  pub rest : List Command
+  pub split : commands ≡ front ++ c ∷ rest
+  pub session : SessionState
+  pub ran : IsRun n front before session
+
+-- A map was the mapper's part of the fabric as it stood before the command that printed it, the ports of each switch
+-- counted from elsewhere.
+pub record WasTrue (n : Network) (commands : List Command) (before : List Piece) (mapper : ℕ) (m : NetMap)
+    : Type 0 where
+  pub depth : ℕ
+  pub tries : ℕ
+  pub done : IsDoneAfter n commands before (Map mapper depth tries)
+  pub right : IsMapOfPart (fabric_of done.session.world) mapper m
+
 -- a command over a fabric: it maps from a host of the fabric to at most 65 cables, maps its circuit links from a host
 -- of it, and plans flips of eight bits
 abbrev pub IsCommandOf : Network → Command → Type 0
@@ -38,12 +55,12 @@ IsCommandOf n (Circuit host depth) = host < length n.hosts
 IsCommandOf n (Plan ahead kind) = IsByteFault (fault_of kind)
 IsCommandOf n _ = Unit {0}
 
--- every map that says complete is the mapper's part of the fabric, the ports of each switch counted from elsewhere
+-- every map that says complete was the mapper's part of the fabric before the command that printed it
 abbrev pub CompleteIsTrue : Network → List Command → Type 0
 CompleteIsTrue n commands =
     IsFabric n → AllByRecursion (IsCommandOf n) commands
     → (out : List Piece) (last : SessionState) (mapper : ℕ) (m : NetMap) → IsRun n commands out last
-    → HasPrinted out mapper m → IsMapOfPart n mapper m
+    → (printed : HasPrinted out mapper m) → WasTrue n commands printed.before mapper m
 
 -- Mapping meets a quiet fabric: no packet is on its way, no planned fault names an injection of it, injections are
 -- left in plenty, and the tree stays small.
@@ -61,7 +78,7 @@ DeepIsComplete n commands =
     → IsFabric n → AllByRecursion (IsCommandOf n) commands → IsRun n commands out s
     → IsCommandOf n (Map host depth tries) → IsMapped host depth tries s.world after j m words
     → IsQuiet host s.world after
-    → 1 ≤ tries → tries ≤ 8 → enough_depth n host ≤ depth → words ≡ Complete
+    → 1 ≤ tries → tries ≤ 8 → enough_depth (fabric_of s.world) host ≤ depth → words ≡ Complete
 
 -- The promise of a run.
 pub record IsPromised (n : Network) (commands : List Command) : Type 0 where

@@ -42,7 +42,7 @@ use Rattle.world_defs.specs.declared.heard.Heard.TheVariants.{Message, Fragment,
 use Rattle.run_defs.specs.declared.line.MapWords.{MapWords}
 use Rattle.run_defs.specs.declared.line.MapWords.TheVariants.{Complete, Doubtful, IncompleteDepth, IncompleteNodes}
 use Rattle.run_defs.specs.declared.line.InstallCause.{InstallCause}
-use Rattle.run_defs.specs.declared.line.InstallCause.TheVariants.{NoRoutes, Busy as LinksBusy}
+use Rattle.run_defs.specs.declared.line.InstallCause.TheVariants.{NoRoutes, Busy as LinksBusy, Changed}
 use Rattle.run_defs.specs.declared.line.InstallCause.TheVariants.{Installed as OtherInstalled, Epochs}
 use Rattle.run_defs.specs.declared.line.ClientCall.{ClientCall}
 use Rattle.run_defs.specs.declared.line.ClientCall.TheVariants.{Begin, Close, Provide, Send, Poll, Tokens as TokensCall}
@@ -103,6 +103,7 @@ map_words IncompleteNodes = codes "incomplete" ∷ codes "nodes" ∷ []
 abbrev pub install_cause : InstallCause → List ℕ
 install_cause NoRoutes = codes "noroutes"
 install_cause LinksBusy = codes "busy"
+install_cause Changed = codes "changed"
 install_cause OtherInstalled = codes "installed"
 install_cause Epochs = codes "epochs"
 

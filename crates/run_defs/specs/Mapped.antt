@@ -17,13 +17,15 @@ pub data IsCalled (host : ℕ) (j : List Entry) (drowned : ℕ) : MapWords → T
   doubted : ¬ IsEndedAtLimit j → IsClosed host j → 0 < drowned → IsCalled host j drowned (Doubtful drowned)
   right : ¬ IsEndedAtLimit j → IsClosed host j → drowned ≡ 0 → IsCalled host j drowned Complete
 
--- The asks of a journal that has grown from a host to a depth, with so many tries each, lead from one world to
--- another. The map is the journal's quotient with its core marked, and these words are what it is called.
+-- The asks of a journal that has grown from a host to a depth, with so many tries each, lead from one world to another;
+-- their mapper is made in the first of the two. The map is the journal's quotient with its core marked, and these words
+-- are what it is called.
 pub record IsMapped (host depth tries : ℕ) (before after : WorldState) (j : List Entry) (m : NetMap)
     (words : MapWords) : Type 0 where
   pub drowned : ℕ
-  pub asked : (log.asks host tries (map (λ e. e.walk) j) before).value ≡ record { entries = j; drowned = drowned }
-  pub led : after ≡ (log.asks host tries (map (λ e. e.walk) j) before).world
+  pub asked : (log.asks before.links.cables.changes host tries (map (λ e. e.walk) j) before).value
+      ≡ record { entries = j; drowned = drowned }
+  pub led : after ≡ (log.asks before.links.cables.changes host tries (map (λ e. e.walk) j) before).world
   pub grown : IsGrown host depth j
   pub unmarked : NetMap
   pub quotient : IsQuotient host j unmarked

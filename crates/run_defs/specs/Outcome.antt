@@ -1,6 +1,6 @@
 -- What each command does and prints, where that is determined: all commands but a map that is made, a map of circuit
 -- links, and routes that are computed.
-use Rattle.std.specs.Prelude.{ℕ, not, List, [], ◌∷◌, map, length, min, is_some}
+use Rattle.std.specs.Prelude.{ℕ, Bool, not, ◌&&◌, nat_eq, List, [], ◌∷◌, map, length, min, is_some}
 use Rattle.std.specs.Prelude.{if◌then◌else◌, Option, Some, None, option_map}
 use Rattle.std.specs.List.{range_with_len}
 use Rattle.net_defs.specs.declared.vertex.End.{End}
@@ -54,7 +54,7 @@ use Rattle.run_defs.specs.declared.line.Line.TheVariants.{InstallRefused, Client
 use Rattle.run_defs.specs.declared.line.Line.TheVariants.{Step as StepOutput, Settle as SettleLine}
 use Rattle.run_defs.specs.declared.line.Line.TheVariants.{Finish as FinishLine, Duo as DuoLine}
 use Rattle.run_defs.specs.declared.line.InstallCause.{InstallCause}
-use Rattle.run_defs.specs.declared.line.InstallCause.TheVariants.{NoRoutes, Busy, Installed as OtherInstalled, Epochs}
+use Rattle.run_defs.specs.declared.line.InstallCause.TheVariants.{NoRoutes, Busy, Changed, Installed as OtherInstalled, Epochs}
 use Rattle.run_defs.specs.declared.line.ClientCall.{ClientCall}
 use Rattle.run_defs.specs.declared.line.ClientCall.TheVariants.{Begin as BeginCall, Close as CloseCall}
 use Rattle.run_defs.specs.declared.line.ClientCall.TheVariants.{Provide as ProvideCall, Send as SendCall}
@@ -199,12 +199,20 @@ install_now s l tries = install_done s l.hosts (installation s l tries)
 abbrev pub adopt_cause : WorldState → InstallCause
 adopt_cause w = if is_some (first_unrevoked w (epoch_of w)) then OtherInstalled else Epochs
 
--- routes are installed where some were computed, the links are idle, and they may be adopted
+-- routes may be installed where no cable was pulled or plugged since their map began, and they may be adopted
+abbrev pub may_install : WorldState → LastRoutes → Bool
+may_install w l = nat_eq l.began w.links.cables.changes && may_adopt w l.routes
+
+-- why they may not
+abbrev pub refusal_cause : WorldState → LastRoutes → InstallCause
+refusal_cause w l = if nat_eq l.began w.links.cables.changes then adopt_cause w else Changed
+
+-- routes are installed where some were computed, the links are idle, and they may be installed
 abbrev pub install : SessionState → ℕ → Option LastRoutes → Outcome
 install s tries None = says_only s (InstallRefused NoRoutes ∷ [])
 install s tries (Some l) =
     if not (is_idle s.world.links) then says_only s (InstallRefused Busy ∷ [])
-    else if not (may_adopt s.world l.routes) then says_only s (InstallRefused (adopt_cause s.world) ∷ [])
+    else if not (may_install s.world l) then says_only s (InstallRefused (refusal_cause s.world l) ∷ [])
     else install_now s l tries
 
 -- a map is refused where a channel holds a packet; else its outcome isn't determined here

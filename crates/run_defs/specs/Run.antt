@@ -62,7 +62,10 @@ pub data Does (s : SessionState) : Command → List Piece → SessionState → T
       → (after : WorldState) (j : List Entry) (m : NetMap) (words : MapWords)
       → outcome s (Map host depth tries) ≡ None → IsMapped host depth tries s.world after j m words
       → out ≡ OneLine (MapLine host words (length j) (after.injected - s.world.injected)) ∷ map_pieces words m
-      → next ≡ record s { world = after; last_map = Some (record { mapper = host; words = words; made = m }) }
+      → next ≡ record s {
+        world = after;
+        last_map = Some (record { mapper = host; words = words; made = m; began = s.world.links.cables.changes });
+      }
       → Does s (Map host depth tries) out next
   circuits : {host depth : ℕ} {out : List Piece} {next : SessionState}
       → IsCircuitTold (fabric_of s.world) host depth out → next ≡ s → Does s (Circuit host depth) out next
@@ -74,6 +77,7 @@ pub data Does (s : SessionState) : Command → List Piece → SessionState → T
           mapper = l.mapper;
           hosts = hosts_by_address s.world l.made;
           routes = found;
+          began = l.began;
         });
       }
       → Does s Routes out next

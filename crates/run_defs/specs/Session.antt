@@ -8,21 +8,25 @@ use Rattle.duo_defs.specs.Duo.{DuoState}
 use Rattle.run_defs.specs.declared.line.MapWords.{MapWords}
 use Rattle.run_defs.specs.declared.line.MapWords.TheVariants.{Complete, Doubtful, IncompleteDepth, IncompleteNodes}
 
--- The last map was made by this mapper, and these words say how far it is known to be right.
+-- The last map was made by this mapper, these words say how far it is known to be right, and it began after so many
+-- changes of cables.
 pub record LastMap : Type 0 where
   pub mapper : ℕ
   pub words : MapWords
   pub made : NetMap
+  pub began : ℕ
 
--- The routes that were computed last stand with their map's mapper and hosts, by address.
+-- The routes that were computed last stand with the mapper of their map, its hosts by address, and the number of changes
+-- of cables at which it began.
 pub record LastRoutes : Type 0 where
   pub mapper : ℕ
   pub hosts : List ℕ
   pub routes : List Route
+  pub began : ℕ
 
 -- What a run holds, and all that a command's acts and lines depend on, as it stands before it: the world; the last map
--- line with its map, and the last routes with the mapper and the hosts of their map, where there are any; and the two
--- hosts that restart, once they have begun.
+-- line with its map, and the last routes with the mapper, the hosts and the beginning of their map, where there are any;
+-- and the two hosts that restart, once they have begun.
 pub record SessionState : Type 0 where
   pub world : WorldState
   pub last_map : Option LastMap

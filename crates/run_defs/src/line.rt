@@ -30,6 +30,8 @@ pub enum InstallCause {
     NoRoutes,
     /// `busy`: a channel holds a packet.
     Busy,
+    /// `changed`: a cable was pulled or plugged since the map of the routes began.
+    Changed,
     /// `installed`: a host hasn't given up the epoch of the adopted routes.
     Installed,
     /// `epochs`: there is no next epoch.

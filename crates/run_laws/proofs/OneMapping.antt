@@ -1,4 +1,4 @@
--- A mapping is one, since each answer follows from the asks before it. So every mapping of the two hosts is the known one.
+-- A mapping is one, as each answer follows from the asks before it. So every mapping of the two hosts is the known one.
 use Rattle.std.proofs.Common.{◌≡◌, ◌≤◌, inl, ℕ, List, [], ◌∷◌, ◌++◌, map, refl, sym, ap, ◌∙◌, subst, arith}
 use Rattle.std.specs.Prelude.{ℤ}
 use Rattle.net_defs.specs.declared.place.Answer.{Answer}
@@ -30,8 +30,8 @@ abbrev walks_of : List Entry → List (List ℤ)
 walks_of j = map (λ e. e.walk) j
 
 -- the world after a journal's asks
-abbrev behind : ℕ → ℕ → WorldState → List Entry → WorldState
-behind host tries w j = (log.asks host tries (walks_of j) w).world
+abbrev behind : ℕ → ℕ → ℕ → WorldState → List Entry → WorldState
+behind made host tries w j = (log.asks made host tries (walks_of j) w).world
 
 same_entry : (d e : Entry) (xs ys : List Entry) → d ∷ xs ≡ e ∷ ys → d ≡ e
 same_entry d e xs ys same = cc
@@ -40,24 +40,24 @@ same_rest : (d e : Entry) (xs ys : List Entry) → d ∷ xs ≡ e ∷ ys → xs 
 same_rest d e xs ys same = cc
 
 -- an entry's answer is the ask's in the world after those before it
-answer-told : (host tries : ℕ) (w : WorldState) (before : List Entry) (e : Entry) (rest : List Entry) → (log.asks host tries (walks_of (before ++ e ∷ rest)) w).value.entries ≡ before ++ e ∷ rest
-    → e.answer ≡ (log.ask host tries e.walk (behind host tries w before)).value.answer
-answer-told host tries w [] e rest same =
-    let a = log.ask host tries e.walk w in
-    let one = same_entry (record { walk = e.walk; answer = a.value.answer }) e (log.asks host tries (walks_of rest) a.world).value.entries rest same in
+answer-told : (made host tries : ℕ) (w : WorldState) (before : List Entry) (e : Entry) (rest : List Entry) → (log.asks made host tries (walks_of (before ++ e ∷ rest)) w).value.entries ≡ before ++ e ∷ rest
+    → e.answer ≡ (log.ask made host tries e.walk (behind made host tries w before)).value.answer
+answer-told made host tries w [] e rest same =
+    let a = log.ask made host tries e.walk w in
+    let one = same_entry (record { walk = e.walk; answer = a.value.answer }) e (log.asks made host tries (walks_of rest) a.world).value.entries rest same in
     sym (ap (λ (x : Entry). x.answer) one)
-answer-told host tries w (b ∷ before) e rest same =
-    let a = log.ask host tries b.walk w in
-    answer-told host tries a.world before e rest
-    (same_rest (record { walk = b.walk; answer = a.value.answer }) b (log.asks host tries (walks_of (before ++ e ∷ rest)) a.world).value.entries (before ++ e ∷ rest) same)
+answer-told made host tries w (b ∷ before) e rest same =
+    let a = log.ask made host tries b.walk w in
+    answer-told made host tries a.world before e rest
+    (same_rest (record { walk = b.walk; answer = a.value.answer }) b (log.asks made host tries (walks_of (before ++ e ∷ rest)) a.world).value.entries (before ++ e ∷ rest) same)
 
 -- what a world answers a host that asks with so many tries
-abbrev tell : ℕ → ℕ → WorldState → List Entry → List ℤ → Answer
-tell host tries w before walk = (log.ask host tries walk (behind host tries w before)).value.answer
+abbrev tell : ℕ → ℕ → ℕ → WorldState → List Entry → List ℤ → Answer
+tell made host tries w before walk = (log.ask made host tries walk (behind made host tries w before)).value.answer
 
-journal-told : (host tries : ℕ) (w : WorldState) (j : List Entry) → (log.asks host tries (walks_of j) w).value.entries ≡ j → IsTold (tell host tries w) j
-journal-told host tries w j same = record {
-  told = λ before e rest is. answer-told host tries w before e rest (subst (λ l. (log.asks host tries (walks_of l) w).value.entries ≡ l) is same);
+journal-told : (made host tries : ℕ) (w : WorldState) (j : List Entry) → (log.asks made host tries (walks_of j) w).value.entries ≡ j → IsTold (tell made host tries w) j
+journal-told made host tries w j same = record {
+  told = λ before e rest is. answer-told made host tries w before e rest (subst (λ l. (log.asks made host tries (walks_of l) w).value.entries ≡ l) is same);
 }
 
 -- the words of a map are one
@@ -85,12 +85,12 @@ maps-one host j p q m k of_p of_q e f = e ∙ ap (λ (z : NetMap). record z { co
 
 pub mapping_is_one : MappingIsOne
 mapping_is_one host depth tries before v w j l m k x y first second =
-    let here : IsTold (tell host tries before) j = journal-told host tries before j (ap (λ (a : log.AskedAll). a.entries) first.asked) in
-    let there : IsTold (tell host tries before) l = journal-told host tries before l (ap (λ (a : log.AskedAll). a.entries) second.asked) in
-    let one : j ≡ l = told_journal_is_one (tell host tries before) host depth j l here there first.grown second.grown in
-    let both = sym first.asked ∙ ap (λ i. (log.asks host tries (walks_of i) before).value) one ∙ second.asked in
+    let here : IsTold (tell before.links.cables.changes host tries before) j = journal-told before.links.cables.changes host tries before j (ap (λ (a : log.AskedAll). a.entries) first.asked) in
+    let there : IsTold (tell before.links.cables.changes host tries before) l = journal-told before.links.cables.changes host tries before l (ap (λ (a : log.AskedAll). a.entries) second.asked) in
+    let one : j ≡ l = told_journal_is_one (tell before.links.cables.changes host tries before) host depth j l here there first.grown second.grown in
+    let both = sym first.asked ∙ ap (λ i. (log.asks before.links.cables.changes host tries (walks_of i) before).value) one ∙ second.asked in
     let drowned : first.drowned ≡ second.drowned = ap (λ (a : log.AskedAll). a.drowned) both in (
-      first.led ∙ ap (λ i. (log.asks host tries (walks_of i) before).world) one ∙ sym second.led,
+      first.led ∙ ap (λ i. (log.asks before.links.cables.changes host tries (walks_of i) before).world) one ∙ sym second.led,
       one,
       maps-one host l first.unmarked second.unmarked m k (subst (λ i. IsQuotient host i first.unmarked) one first.quotient) second.quotient first.marked second.marked,
       words-one host l second.drowned x y (subst (λ n. IsCalled host l n x) drowned (subst (λ i. IsCalled host i first.drowned x) one first.called)) second.called,

@@ -18,7 +18,7 @@ use Rattle.run_defs.specs.Mapped.{IsMapped}
 use Rattle.run_defs.specs.Run.{Does, Runs, map_pieces}
 use Rattle.run_defs.specs.Run.Does.{determined, maps}
 use Rattle.run_defs.specs.Run.Runs.{ended, goes_on}
-use Rattle.run_defs.specs.Headline.{HasPrinted}
+use Rattle.run_defs.specs.Headline.{HasPrinted, WasTrue}
 use Rattle.run_defs.specs.Examples.{setup_map}
 use Rattle.run_laws.specs.TwoHosts.{MapsAreRight}
 use Rattle.run_laws.proofs.OneMapping.{mapping_is_complete}
@@ -68,10 +68,10 @@ map-in m k e = cc
 
 one-printed : (asks packets injected dropped : ℕ) (made : NetMap) (mapper : ℕ) (m : NetMap) (more fewer : ℕ) (before behind : List Piece)
     → OneLine (MapLine 0 Complete asks packets) ∷ MapLines made ∷ OneLine (FinishLine injected dropped) ∷ [] ≡ before ++ OneLine (MapLine mapper Complete more fewer) ∷ MapLines m ∷ behind
-    → (0 ≡ mapper) × (made ≡ m)
+    → (before ≡ []) × (0 ≡ mapper) × (made ≡ m)
 one-printed asks packets injected dropped made mapper m more fewer [] behind e =
     let rest = tails _ _ _ _ e in
-    (mapper-in 0 mapper asks packets more fewer (heads _ _ _ _ e), map-in made m (heads _ _ _ _ rest))
+    (refl, mapper-in 0 mapper asks packets more fewer (heads _ _ _ _ e), map-in made m (heads _ _ _ _ rest))
 one-printed asks packets injected dropped made mapper m more fewer (x ∷ []) behind e = let wrong : MapLines made ≡ OneLine (MapLine mapper Complete more fewer) = heads _ _ _ _ (tails _ _ _ _ e) in cc
 one-printed asks packets injected dropped made mapper m more fewer (x ∷ y ∷ []) behind e =
     let wrong : OneLine (FinishLine injected dropped) ≡ OneLine (MapLine mapper Complete more fewer) = heads _ _ _ _ (tails _ _ _ _ (tails _ _ _ _ e)) in cc
@@ -84,7 +84,8 @@ one-printed asks packets injected dropped made mapper m more fewer (x ∷ y ∷ 
 right : IsMapOfPart two_hosts 0 setup_map
 right = law.right
 
-run-right : (depth : ℕ) (out : List Piece) (last : SessionState) (mapper : ℕ) (m : NetMap) → 2 ≤ depth → Runs (new_session two_hosts) (Map 0 depth 1 ∷ Finish ∷ []) out last → HasPrinted out mapper m → IsMapOfPart two_hosts mapper m
+run-right : (depth : ℕ) (out : List Piece) (last : SessionState) (mapper : ℕ) (m : NetMap) → 2 ≤ depth → Runs (new_session two_hosts) (Map 0 depth 1 ∷ Finish ∷ []) out last → (p : HasPrinted out mapper m)
+    → WasTrue two_hosts (Map 0 depth 1 ∷ Finish ∷ []) p.before mapper m
 run-right depth out last mapper m deep (goes_on {next = next} {out = piece} {rest = rest} d r e) p =
     let s = map-does d refl in
     let four = mapping_is_complete depth s.after s.j s.m s.words deep s.is in
@@ -95,7 +96,13 @@ run-right depth out last mapper m deep (goes_on {next = next} {out = piece} {res
     let whole : out ≡ OneLine (MapLine 0 Complete asks packets) ∷ MapLines s.m ∷ OneLine (FinishLine end.0 end.1) ∷ [] =
     e ∙ ap (λ l. l ++ rest) (s.printed ∙ words) ∙ ap (λ l. OneLine (MapLine 0 Complete asks packets) ∷ MapLines s.m ∷ l) end.2 in
     let found = one-printed asks packets end.0 end.1 s.m mapper m p.asks p.packets p.before p.behind (sym whole ∙ p.there) in
-    subst (λ h. IsMapOfPart two_hosts h m) found.0 (subst (λ k. IsMapOfPart two_hosts 0 k) (sym four.2 ∙ found.1) right)
+    let start : SessionState = new_session two_hosts in
+    record {
+      depth = depth;
+      tries = 1;
+      done = record { front = []; rest = Finish ∷ []; split = ap (λ h. Map h depth 1 ∷ Finish ∷ []) found.1; session = start; ran = subst (λ ps. Runs start [] ps start) (sym found.0) ended };
+      right = subst (λ h. IsMapOfPart two_hosts h m) found.1 (subst (λ k. IsMapOfPart two_hosts 0 k) (sym four.2 ∙ found.2) right);
+    }
 
 pub maps_are_right : MapsAreRight
 maps_are_right depth deep fabric fair out last mapper m r p = run-right depth out last mapper m deep r p

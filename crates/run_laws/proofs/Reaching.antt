@@ -1,15 +1,18 @@
 -- Acts that may happen lead from each session's world to the next.
-use Rattle.std.proofs.Common.{◌≡◌, ℕ, Bool, true, false, not, List, [], ◌∷◌, map, Option, Some, None, option_map, refl, sym, ◌∙◌, subst, if◌then◌else◌}
+use Rattle.std.proofs.Common.{◌≡◌, ℕ, ◌≤◌, Bool, true, false, not, List, [], ◌∷◌, map, Option, Some, None, option_map, refl, sym, ◌∙◌, subst, arith, if◌then◌else◌}
 use Rattle.std.specs.Prelude.{ℤ}
 use Rattle.std.specs.List.{AllByRecursion}
 use Rattle.net_defs.specs.declared.vertex.End.{End}
 use Rattle.net_defs.specs.Network.{Network, IsFabric}
+use Rattle.cable_history.specs.History.{CableHistory, IsHistory, fabric_at}
 use Rattle.cable_history.specs.Crossed.{leaving}
+use Rattle.cable_history.proofs.Now.{last_is_now}
+use Rattle.act_defs.proofs.Kept.{CablesKept}
 use Rattle.link_defs.specs.Links.{is_idle}
 use Rattle.world_defs.specs.declared.event.Event.{Event}
 use Rattle.world_defs.specs.declared.event.Event.TheVariants.{Begin, Close, Provide, Send, Poll}
 use Rattle.world_defs.specs.declared.effect.Effect.{Effect}
-use Rattle.world_defs.specs.World.{WorldState, fabric_of, new_world, adopted_by, may_adopt}
+use Rattle.world_defs.specs.World.{WorldState, fabric_of, new_world, adopted_by}
 use Rattle.world_defs.specs.Step.{step}
 use Rattle.world_defs.specs.Logs as log
 use Rattle.world_defs.specs.Log.{Log}
@@ -22,7 +25,7 @@ use Rattle.run_defs.specs.declared.line.Line.TheVariants.{MapBusy, InstallRefuse
 use Rattle.run_defs.specs.declared.line.InstallCause.TheVariants.{Busy}
 use Rattle.run_defs.specs.Output.{Piece}
 use Rattle.run_defs.specs.Session.{SessionState, LastMap, LastRoutes, new_session, complete_map}
-use Rattle.run_defs.specs.Outcome.{Outcome, says_only, on_channel, event_of, stepped, step_or_idle, fault_of, install_done, install_now, install, map_refused, routes_refused, outcome, set_of, adopt_cause}
+use Rattle.run_defs.specs.Outcome.{Outcome, says_only, on_channel, event_of, stepped, step_or_idle, fault_of, install_done, install_now, install, map_refused, routes_refused, outcome, set_of, may_install, refusal_cause}
 use Rattle.run_defs.specs.Run.{Does, Runs, IsRun}
 use Rattle.run_defs.specs.Run.Does.{determined, maps, circuits, routes}
 use Rattle.run_defs.specs.Run.Runs.{ended, goes_on}
@@ -32,12 +35,11 @@ use Rattle.run_defs.specs.Headline.{IsCommandOf}
 use Rattle.mapping_laws.specs.Runs.{IsSessionOf}
 use Rattle.mapping_laws.specs.Held.{HoldsRight}
 use Rattle.install_laws.proofs.Worlds.{asks-of, settle-of, installed-of}
-use Rattle.mapping_laws.proofs.Sessions.{does-stays, new-session}
-use Rattle.mapping_laws.proofs.Holding.{does-hold, new-holds}
+use Rattle.mapping_laws.proofs.Sessions.{mapped-stays, does-keep, does-stays, new-session}
+use Rattle.mapping_laws.proofs.Holding.{can-install, does-hold, new-holds}
 use Rattle.run_laws.specs.Acts.{IsActOf, IsByteStep, RunIsReached, RunHasNoCycle}
 use Rattle.run_laws.proofs.Ranked.{right_routes_are_adoptable}
 use Rattle.install_laws.proofs.Leads.{Leads, leads-same, leads-both, leads-event, leads-plan, leads-adoption, along-leads}
-use Rattle.act_defs.proofs.Epochs.{may-from}
 
 -- such a command is one over the fabric
 command-of : (n : Network) (c : Command) → IsActOf n c → IsCommandOf n c
@@ -47,12 +49,29 @@ command-of n (Plan ahead kind) is = is.1
 command-of n c is = tt
 
 -- asks in a row
-leads-asks : (host tries : ℕ) (walks : List (List ℤ)) (w : WorldState) → Leads w (log.asks host tries walks w).world
-leads-asks host tries walks w = asks-of Leads along-leads host tries walks w
+leads-asks : (made host tries : ℕ) (walks : List (List ℤ)) (w : WorldState) → Leads w (log.asks made host tries walks w).world
+leads-asks made host tries walks w = asks-of Leads along-leads made host tries walks w
 
--- a session whose last routes may be adopted
-abbrev pub LastAdoptable : Network → SessionState → Type 0
-LastAdoptable n s = (l : LastRoutes) → s.last_routes ≡ Some l → AreAdoptable n l.routes
+-- routes that were adoptable when their map began
+pub record WereAdoptable (h : CableHistory) (l : LastRoutes) : Type 0 where
+  pub past : l.began ≤ h.changes
+  pub may : AreAdoptable (fabric_at h l.began) l.routes
+
+-- a session whose last routes were
+abbrev pub LastAdoptable : SessionState → Type 0
+LastAdoptable s = (l : LastRoutes) → s.last_routes ≡ Some l → WereAdoptable s.world.links.cables l
+
+adoptable-past : (w v : WorldState) (l : LastRoutes) → CablesKept w v → WereAdoptable w.links.cables l → WereAdoptable v.links.cables l
+adoptable-past w v l k is =
+    let low = is.past in
+    let more = k.changes in
+    record { past = omega (arith, low, more); may = subst (λ n. AreAdoptable n l.routes) (sym (k.past l.began low)) is.may }
+
+-- where no change came since, they are adoptable
+pub adoptable-now : (w : WorldState) (l : LastRoutes) → IsHistory w.links.cables → l.began ≡ w.links.cables.changes → WereAdoptable w.links.cables l → AreAdoptable (fabric_of w) l.routes
+adoptable-now w l is same were =
+    let high : w.links.cables.changes ≤ l.began = omega (arith, same) in
+    subst (λ n. AreAdoptable n l.routes) (last_is_now w.links.cables l.began is high) were.may
 
 abbrev LeadsIn : SessionState → Option Outcome → Type 0
 LeadsIn s None = Unit {0}
@@ -91,16 +110,17 @@ event-bytes w (Replay serial) low e is = some-bytes (Event.Replay serial) e is t
 done-leads : (s : SessionState) (hosts : List ℕ) (r : Log ℕ) → Leads s.world r.world → LeadsIn s (Some (install_done s hosts r))
 done-leads s hosts r k = (k, refl)
 
-install-leads : (n : Network) (s : SessionState) (tries : ℕ) (o : Option LastRoutes) → fabric_of s.world ≡ n → ((l : LastRoutes) → o ≡ Some l → AreAdoptable n l.routes) → LeadsIn s (Some (install s tries o))
-install-leads n s tries None net may = (leads-same s.world, refl)
-install-leads n s tries (Some l) net may = by (not (is_idle s.world.links)) (not (may_adopt s.world l.routes)) refl
+install-leads : (s : SessionState) (tries : ℕ) (o : Option LastRoutes) → IsHistory s.world.links.cables → ((l : LastRoutes) → o ≡ Some l → WereAdoptable s.world.links.cables l) → LeadsIn s (Some (install s tries o))
+install-leads s tries None is may = (leads-same s.world, refl)
+install-leads s tries (Some l) is may = by (not (is_idle s.world.links)) (not (may_install s.world l)) refl
   where
-    by : (busy other : Bool) → not (may_adopt s.world l.routes) ≡ other → LeadsIn s (Some (if busy then says_only s (InstallRefused Busy ∷ []) else if other then says_only s (InstallRefused (adopt_cause s.world) ∷ []) else install_now s l tries))
+    by : (busy other : Bool) → not (may_install s.world l) ≡ other → LeadsIn s (Some (if busy then says_only s (InstallRefused Busy ∷ []) else if other then says_only s (InstallRefused (refusal_cause s.world l) ∷ []) else install_now s l tries))
     by true other e = (leads-same s.world, refl)
     by false true e = (leads-same s.world, refl)
     by false false e =
         let w : WorldState = adopted_by s.world l.mapper l.routes in
-        let adopts = leads-adoption s.world l.mapper l.routes (subst (λ k. AreAdoptable k l.routes) (sym net) (may l refl)) (may-from (may_adopt s.world l.routes) e) in
+        let can = can-install s.world l e in
+        let adopts = leads-adoption s.world l.mapper l.routes (adoptable-now s.world l is can.0 (may l refl)) can.1 in
         done-leads s l.hosts (log.install (set_of s.world l) l.hosts tries w) (leads-both s.world w (log.install (set_of s.world l) l.hosts tries w).world adopts (installed-of Leads along-leads (set_of s.world l) l.hosts tries w))
 
 refused-leads : (s : SessionState) (o : Option LastMap) → LeadsIn s (routes_refused s o)
@@ -114,12 +134,12 @@ busy-leads s host = by (is_idle s.world.links)
     by true = tt
     by false = (leads-same s.world, refl)
 
-outcome-leads : (n : Network) (s : SessionState) (c : Command) → IsActOf n c → fabric_of s.world ≡ n → LastAdoptable n s → LeadsIn s (outcome s c)
+outcome-leads : (n : Network) (s : SessionState) (c : Command) → IsActOf n c → IsHistory s.world.links.cables → LastAdoptable s → LeadsIn s (outcome s c)
 outcome-leads n s (Walk host walk) of_n net may = (leads-same s.world, refl)
 outcome-leads n s (Map host depth tries) of_n net may = busy-leads s host
 outcome-leads n s (Circuit host depth) of_n net may = tt
 outcome-leads n s Routes of_n net may = refused-leads s (complete_map s.last_map)
-outcome-leads n s (Install tries) of_n net may = install-leads n s tries s.last_routes net may
+outcome-leads n s (Install tries) of_n net may = install-leads s tries s.last_routes net may
 outcome-leads n s (BeginCommand h port sends recvs) of_n net may = (leads-event s.world (Begin h port sends recvs) tt, refl)
 outcome-leads n s (CloseCommand h port) of_n net may = (leads-event s.world (Close h port) tt, refl)
 outcome-leads n s (PollCommand h port) of_n net may = (leads-event s.world (Poll h port) tt, refl)
@@ -135,41 +155,44 @@ outcome-leads n s (Duo e) of_n net may = (leads-same s.world, refl)
 -- a session that a run of such commands leads to
 pub record IsLed (n : Network) (s : SessionState) : Type 0 where
   pub session : IsSessionOf n s
-  pub holds : HoldsRight n s
+  pub holds : HoldsRight s
   pub leads : Leads (new_world n) s.world
-  pub adoptable : LastAdoptable n s
+  pub adoptable : LastAdoptable s
 
-kept-adoptable : (n : Network) (r l : LastRoutes) → AreAdoptable n r.routes → Some r ≡ Some l → AreAdoptable n l.routes
-kept-adoptable n r l may e = let one : r ≡ l = cc in subst (λ (x : LastRoutes). AreAdoptable n x.routes) one may
+kept-adoptable : (h : CableHistory) (r l : LastRoutes) → WereAdoptable h r → Some r ≡ Some l → WereAdoptable h l
+kept-adoptable h r l may e = let one : r ≡ l = cc in subst (WereAdoptable h) one may
 
-led-on : (n : Network) (s next : SessionState) → IsSessionOf n next → HoldsRight n next → IsLed n s → Leads s.world next.world → LastAdoptable n next → IsLed n next
+led-on : (n : Network) (s next : SessionState) → IsSessionOf n next → HoldsRight next → IsLed n s → Leads s.world next.world → LastAdoptable next → IsLed n next
 led-on n s next session holds led leads may = record { session = session; holds = holds; leads = leads-both (new_world n) s.world next.world led.leads leads; adoptable = may }
 
-does-lead : {s next : SessionState} {c : Command} {out : List Piece} → (n : Network) → IsFabric n → IsActOf n c → IsLed n s → Does s c out next → Leads s.world next.world × LastAdoptable n next
-does-lead {s = s} {next = next} {c = c} n f of_n led (determined e) =
-    let k = subst (LeadsIn s) e (outcome-leads n s c of_n led.session.fabric led.adoptable) in
-    (k.0, λ l is. led.adoptable l (sym k.1 ∙ is))
-does-lead {s = s} {next = next} n f of_n led (maps {host = host} {depth = depth} {tries = tries} after j m words none made printed left) =
-    let asks = leads-asks host tries (map (λ e. e.walk) j) s.world in
+does-lead : {s next : SessionState} {c : Command} {out : List Piece} → (n : Network) → IsActOf n c → IsLed n s → Does s c out next → Leads s.world next.world × LastAdoptable next
+does-lead {s = s} {next = next} {c = c} n of_n led (determined e) =
+    let k = subst (LeadsIn s) e (outcome-leads n s c of_n led.session.history led.adoptable) in
+    let kept = (does-keep {s = s} {next = next} {c = c} n (command-of n c of_n) (determined e)).cables in
+    (k.0, λ l is. adoptable-past s.world next.world l kept (led.adoptable l (sym k.1 ∙ is)))
+does-lead {s = s} {next = next} n of_n led (maps {host = host} {depth = depth} {tries = tries} after j m words none made printed left) =
+    let asks = leads-asks s.world.links.cables.changes host tries (map (λ e. e.walk) j) s.world in
     let there : Leads s.world after = subst (Leads s.world) (sym made.led) asks in
-    (subst (λ (x : SessionState). Leads s.world x.world) (sym left) there, subst (LastAdoptable n) (sym left) led.adoptable)
-does-lead {s = s} {next = next} n f of_n led (circuits told left) =
-    (subst (λ (x : SessionState). Leads s.world x.world) (sym left) (leads-same s.world), subst (LastAdoptable n) (sym left) led.adoptable)
-does-lead {s = s} {next = next} n f of_n led (routes l found complete are printed left) =
+    let kept = (mapped-stays s.world after host tries j made.led).cables in
+    (subst (λ (x : SessionState). Leads s.world x.world) (sym left) there, subst LastAdoptable (sym left) (λ l is. adoptable-past s.world after l kept (led.adoptable l is)))
+does-lead {s = s} {next = next} n of_n led (circuits told left) =
+    (subst (λ (x : SessionState). Leads s.world x.world) (sym left) (leads-same s.world), subst LastAdoptable (sym left) led.adoptable)
+does-lead {s = s} {next = next} n of_n led (routes l found complete are printed left) =
     let k = led.holds.complete l complete in
-    let may = right_routes_are_adoptable n l.mapper l.made found f k.rules k.right are in
-    (subst (λ (x : SessionState). Leads s.world x.world) (sym left) (leads-same s.world), subst (LastAdoptable n) (sym left) (λ x is. kept-adoptable n _ x may is))
+    let past : Network = fabric_at s.world.links.cables l.began in
+    let may = right_routes_are_adoptable past l.mapper l.made found (led.session.history.fabrics l.began) k.right.rules k.right.right are in
+    (subst (λ (x : SessionState). Leads s.world x.world) (sym left) (leads-same s.world), subst LastAdoptable (sym left) (λ x is. kept-adoptable s.world.links.cables _ x (record { past = k.past; may = may }) is))
 
-runs-lead : {s last : SessionState} {cs : List Command} {out : List Piece} → (n : Network) → IsFabric n → AllByRecursion (IsActOf n) cs → IsLed n s → Runs s cs out last → IsLed n last
-runs-lead n f all led ended = led
-runs-lead {s = s} n f all led (goes_on {next = next} {c = c} d r e) =
+runs-lead : {s last : SessionState} {cs : List Command} {out : List Piece} → (n : Network) → AllByRecursion (IsActOf n) cs → IsLed n s → Runs s cs out last → IsLed n last
+runs-lead n all led ended = led
+runs-lead {s = s} n all led (goes_on {next = next} {c = c} d r e) =
     let of_n = command-of n c all.0 in
-    let on = does-lead n f all.0 led d in
-    runs-lead n f all.1 (led-on n s next (does-stays n f of_n led.session d) (does-hold n f of_n led.session led.holds d) led on.0 on.1) r
+    let on = does-lead n all.0 led d in
+    runs-lead n all.1 (led-on n s next (does-stays n of_n led.session d) (does-hold n of_n led.session led.holds d) led on.0 on.1) r
 
 pub run-led : (n : Network) (commands : List Command) (out : List Piece) (last : SessionState) → IsFabric n → AllByRecursion (IsActOf n) commands → IsRun n commands out last → IsLed n last
 run-led n commands out last f all r =
-    let start : IsLed n (new_session n) = record { session = new-session n; holds = new-holds n; leads = leads-same (new_world n); adoptable = λ l e. cc } in runs-lead n f all start r
+    let start : IsLed n (new_session n) = record { session = new-session n f; holds = new-holds n; leads = leads-same (new_world n); adoptable = λ l e. cc } in runs-lead n all start r
 
 pub run_is_reached : RunIsReached
 run_is_reached n commands out last f all r =

@@ -44,11 +44,11 @@ abbrev map_printed : ℕ → WorldState → WorldState → List Entry → NetMap
 map_printed host before after j m words = OneLine (MapLine host words (length j) (after.injected - before.injected)) ∷ map_pieces words m
 
 abbrev map_left : SessionState → ℕ → WorldState → NetMap → MapWords → SessionState
-map_left s host after m words = record s { world = after; last_map = Some (record { mapper = host; words = words; made = m }) }
+map_left s host after m words = record s { world = after; last_map = Some (record { mapper = host; words = words; made = m; began = s.world.links.cables.changes }) }
 
 -- the session that routes leave
 abbrev routes_left : SessionState → LastMap → List Route → SessionState
-routes_left s l found = record s { last_routes = Some (record { mapper = l.mapper; hosts = hosts_by_address s.world l.made; routes = found }) }
+routes_left s l found = record s { last_routes = Some (record { mapper = l.mapper; hosts = hosts_by_address s.world l.made; routes = found; began = l.began }) }
 
 mapped-one : (s a b : SessionState) (host depth tries : ℕ) (out other : List Piece) (v w : WorldState) (j l : List Entry) (m k : NetMap) (x y : MapWords)
     → IsMapped host depth tries s.world v j m x → IsMapped host depth tries s.world w l k y

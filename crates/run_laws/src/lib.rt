@@ -6,7 +6,7 @@
 //! | file of `specs/` | says |
 //! |---|---|
 //! | `Laws` | a mapping is one |
-//! | `Runs` | a map's routes are one list, what a command does is one, so is a run; first commands print a prefix of its text |
+//! | `Runs` | routes of a map are one list, what a command does is one, so is a run; its first commands print a prefix |
 //! | `Acts` | a run is acts which may happen, one after another, so that the laws of acts hold along every run |
 //! | `TwoHosts` | every mapping of the two hosts says complete, and every map that such a run prints is right |
 #![tactic(auto)]

@@ -2,7 +2,10 @@
 use Rattle.std.proofs.Common.{◌≡◌, ◌<◌, ◌≤◌, ◌+◌, ◌-◌, ◌^◌, ℕ, ℤ, Bool, true, false, List, [], ◌∷◌, map, length, min, refl, sym, ◌∙◌, ap, subst, arith, if◌then◌else◌}
 use Rattle.fab_outer.specs.Fault.{one_more}
 use Rattle.journal_defs.specs.declared.entry.Entry.{Entry}
-use Rattle.world_defs.specs.World.{WorldState}
+use Rattle.cable_history.specs.History.{fabric_at}
+use Rattle.map_defs.specs.NetMap.{NetMap}
+use Rattle.map_canon.specs.Printing.{AreOfFabric}
+use Rattle.world_defs.specs.World.{WorldState, fabric_of}
 use Rattle.world_defs.specs.declared.event.Event.{Event}
 use Rattle.world_defs.specs.Step.{step, after_all}
 use Rattle.world_defs.specs.EightBits.{IsByteEvent}
@@ -10,14 +13,16 @@ use Rattle.world_laws.proofs.Counting.{step-counts}
 use Rattle.map_making.specs.declared.making.MadeMap.{MadeMap}
 use Rattle.map_making.specs.Made.{IsMade}
 use Rattle.run_session.specs.declared.mapping.MapOrder.{MapOrder}
+use Rattle.run_session.specs.Kept.{GoesOn}
 use Rattle.run_session.specs.Told.{IsMadeOver}
+use Rattle.run_session.proofs.Going.{goes-events, goes-way, goes-on, of-fabric}
 use Rattle.run_defs.specs.Mapped.{IsCalled}
 use Rattle.mapper.specs.Asks.{AreAsked}
 use Rattle.mapper.specs.Growths.{StopsShort}
 use Rattle.mapper.specs.Growths.StopsShort.{between_asks, within_ask}
 use Rattle.world_defs.specs.Log.{Log}
 use Rattle.world_defs.specs.Logs as log
-use Rattle.world_defs.proofs.LogRows.{ask-row, byte_asks}
+use Rattle.world_defs.proofs.LogRows.{ask-row, asks-row, byte_asks}
 use Rattle.world_defs.specs.Row.{IsPartWay}
 use Rattle.promise_laws.specs.CutShort.{IsBegunMap}
 use Rattle.promise_laws.specs.CutShort.IsBegunMap.{stopped_between, stopped_within}
@@ -26,10 +31,11 @@ use Rattle.world_asking.specs.Prober.{WorldAsking, IsAsked, IsCutAsk, next_ask, 
 -- What asks in a row came to: their answers, how many drowned, and the world then.
 pub record Came (s : WorldAsking) (j : List Entry) (t : WorldAsking) : Type 0 where
   pub drowned : ℕ
-  pub asked : (log.asks s.host s.tries (map (λ e. e.walk) j) s.world).value ≡ record { entries = j; drowned = drowned }
-  pub led : t.world ≡ (log.asks s.host s.tries (map (λ e. e.walk) j) s.world).world
+  pub asked : (log.asks s.made s.host s.tries (map (λ e. e.walk) j) s.world).value ≡ record { entries = j; drowned = drowned }
+  pub led : t.world ≡ (log.asks s.made s.host s.tries (map (λ e. e.walk) j) s.world).world
   pub few : drowned ≤ length j
   pub counted : t.drowned ≡ min (s.drowned + drowned) (2 ^ 64 - 1)
+  pub made : t.made ≡ s.made
   pub host : t.host ≡ s.host
   pub tries : t.tries ≡ s.tries
   pub rises : s.world.injected ≤ t.world.injected
@@ -39,10 +45,10 @@ events-rise : (w : WorldState) (es : List Event) → w.injected ≤ (after_all w
 events-rise w [] = omega arith
 events-rise w (e ∷ es) = let a = (step-counts w e).injected in let b = events-rise (step w e).1 es in omega (arith, a, b)
 
-ask-rises : (w : WorldState) (mapper tries : ℕ) (walk : List ℤ) → w.injected ≤ (log.ask mapper tries walk w).world.injected
-ask-rises w mapper tries walk =
-    let l : Log log.Asked = log.ask mapper tries walk w in
-    let e : l.world.injected ≡ (after_all w l.events).injected = ap (λ v. v.injected) (ask-row {Q = IsByteEvent} byte_asks (λ h wk looped. tt) mapper tries walk w).there in
+ask-rises : (made : ℕ) (w : WorldState) (mapper tries : ℕ) (walk : List ℤ) → w.injected ≤ (log.ask made mapper tries walk w).world.injected
+ask-rises made w mapper tries walk =
+    let l : Log log.Asked = log.ask made mapper tries walk w in
+    let e : l.world.injected ≡ (after_all w l.events).injected = ap (λ v. v.injected) (ask-row {Q = IsByteEvent} byte_asks (λ h wk looped. tt) made mapper tries walk w).there in
     let k = events-rise w l.events in
     omega (arith, e, k)
 
@@ -65,6 +71,7 @@ came-from s [] t low same = record {
   led = sym (ap (λ u. u.world) same);
   few = omega arith;
   counted = let e : t.drowned ≡ s.drowned = sym (ap (λ u. u.drowned) same) in omega (arith, low, e);
+  made = sym (ap (λ u. u.made) same);
   host = sym (ap (λ u. u.host) same);
   tries = sym (ap (λ u. u.tries) same);
   rises = let e : t.world.injected ≡ s.world.injected = sym (ap (λ u. u.world.injected) same) in omega (arith, e);
@@ -78,18 +85,19 @@ came-from s (e ∷ rest) t low (between, is, more) =
     let r = came-from between rest t below more in
     let few = r.few in
     let one = one_if-few a.drowned in
-    let first = ask-rises s.world s.host s.tries e.walk in
+    let first = ask-rises s.made s.world s.host s.tries e.walk in
     let here : between.world.injected ≡ l.world.injected = ap (λ u. u.world.injected) at in
     let later = r.rises in
-    let rest_is : (log.asks s.host s.tries (map (λ x. x.walk) rest) l.world).value ≡ record { entries = rest; drowned = r.drowned } =
-    ap (λ (u : WorldAsking). (log.asks u.host u.tries (map (λ x. x.walk) rest) u.world).value) (sym at) ∙ r.asked in
+    let rest_is : (log.asks s.made s.host s.tries (map (λ x. x.walk) rest) l.world).value ≡ record { entries = rest; drowned = r.drowned } =
+    ap (λ (u : WorldAsking). (log.asks u.made u.host u.tries (map (λ x. x.walk) rest) u.world).value) (sym at) ∙ r.asked in
     record {
       drowned = one_if a.drowned + r.drowned;
       asked = ap (λ (x : log.AskedAll). record { entries = record { walk = e.walk; answer = a.answer } ∷ x.entries; drowned = one_if a.drowned + x.drowned }) rest_is
           ∙ ap (λ y. record { entries = record { walk = e.walk; answer = y } ∷ rest; drowned = one_if a.drowned + r.drowned }) (sym is.told);
-      led = r.led ∙ ap (λ (u : WorldAsking). (log.asks u.host u.tries (map (λ x. x.walk) rest) u.world).world) at;
+      led = r.led ∙ ap (λ (u : WorldAsking). (log.asks u.made u.host u.tries (map (λ x. x.walk) rest) u.world).world) at;
       few = omega (arith, few, one);
       counted = counted-on a.drowned s.drowned between.drowned t.drowned r.drowned count r.counted;
+      made = r.made ∙ ap (λ u. u.made) at;
       host = r.host ∙ ap (λ u. u.host) at;
       tries = r.tries ∙ ap (λ u. u.tries) at;
       rises = omega (arith, first, here, later);
@@ -100,9 +108,9 @@ came-from s (e ∷ rest) t low (between, is, more) =
     count-below false before between low e = omega (arith, low, e)
 
 -- a map that was made by a mapper over a world is made over that world
-pub made-over : (s : WorldAsking) (depth : ℕ) (m : MadeMap) (t : WorldAsking) (packets : ℕ) → s.drowned ≡ 0 → m.asks < 2 ^ 64 → IsMade WorldAsking IsAsked s.host depth s t.drowned m t
+pub made-over : (s : WorldAsking) (depth : ℕ) (m : MadeMap) (t : WorldAsking) (packets : ℕ) → s.made ≡ s.world.links.cables.changes → s.drowned ≡ 0 → m.asks < 2 ^ 64 → IsMade WorldAsking IsAsked s.host depth s t.drowned m t
     → packets ≡ t.world.injected - s.world.injected → IsMadeOver (record { host = s.host; depth = depth; tries = s.tries }) s.world t.world m packets
-made-over s depth m t packets none few k p =
+made-over s depth m t packets new none few k p =
     let r = came-from s k.journal t (omega (arith, none)) k.led in
     let counted = r.counted in
     let most = r.few in
@@ -112,8 +120,8 @@ made-over s depth m t packets none few k p =
       journal = k.journal;
       mapped = record {
         drowned = r.drowned;
-        asked = r.asked;
-        led = r.led;
+        asked = ap (λ made. (log.asks made s.host s.tries (map (λ x. x.walk) k.journal) s.world).value) (sym new) ∙ r.asked;
+        led = r.led ∙ ap (λ made. (log.asks made s.host s.tries (map (λ x. x.walk) k.journal) s.world).world) new;
         grown = k.grown;
         unmarked = k.unmarked;
         quotient = k.quotient;
@@ -128,39 +136,65 @@ made-over s depth m t packets none few k p =
 pub made-rises : (s : WorldAsking) (depth : ℕ) (m : MadeMap) (t : WorldAsking) → s.drowned ≡ 0 → IsMade WorldAsking IsAsked s.host depth s t.drowned m t → s.world.injected ≤ t.world.injected
 made-rises s depth m t none k = (came-from s k.journal t (omega (arith, none)) k.led).rises
 
--- the same for the mapper that a world is given to, and the counts of injections before and after it
-pub made-from : (w : WorldState) (order : MapOrder) (s t : WorldAsking) (m : MadeMap) (after : WorldState) (b a : ℕ) → s ≡ record { world = w; host = order.host; tries = order.tries; drowned = 0 } → after ≡ t.world
+-- the mapper that a world is given to
+abbrev given : WorldState → MapOrder → WorldAsking
+given w order = record { world = w; made = w.links.cables.changes; host = order.host; tries = order.tries; drowned = 0 }
+
+-- the same for it, and the counts of injections before and after it
+pub made-from : (w : WorldState) (order : MapOrder) (s t : WorldAsking) (m : MadeMap) (after : WorldState) (b a : ℕ) → s ≡ given w order → after ≡ t.world
     → b ≡ w.injected → a ≡ after.injected → m.asks < 2 ^ 64 → IsMade WorldAsking IsAsked s.host order.depth s t.drowned m t → IsMadeOver order w after m (a - b)
 made-from w order s t m after b a e f g h few k =
-    let p : WorldAsking = record { world = w; host = order.host; tries = order.tries; drowned = 0 } in
+    let p : WorldAsking = given w order in
     let k0 : IsMade WorldAsking IsAsked order.host order.depth p t.drowned m t = subst (λ (u : WorldAsking). IsMade WorldAsking IsAsked u.host order.depth u t.drowned m t) e k in
     let packets : a - b ≡ t.world.injected - w.injected = ap (λ x. x - b) (h ∙ ap (λ v. v.injected) f) ∙ ap (λ y. t.world.injected - y) g in
-    subst (λ v. IsMadeOver order w v m (a - b)) (sym f) (made-over p order.depth m t (a - b) refl few k0 packets)
+    subst (λ v. IsMadeOver order w v m (a - b)) (sym f) (made-over p order.depth m t (a - b) refl refl few k0 packets)
 
-pub rises-from : (w : WorldState) (order : MapOrder) (s t : WorldAsking) (m : MadeMap) (after : WorldState) (b a : ℕ) → s ≡ record { world = w; host = order.host; tries = order.tries; drowned = 0 } → after ≡ t.world
+pub rises-from : (w : WorldState) (order : MapOrder) (s t : WorldAsking) (m : MadeMap) (after : WorldState) (b a : ℕ) → s ≡ given w order → after ≡ t.world
     → b ≡ w.injected → a ≡ after.injected → IsMade WorldAsking IsAsked s.host order.depth s t.drowned m t → b ≤ a
 rises-from w order s t m after b a e f g h k =
-    let p : WorldAsking = record { world = w; host = order.host; tries = order.tries; drowned = 0 } in
+    let p : WorldAsking = given w order in
     let k0 : IsMade WorldAsking IsAsked order.host order.depth p t.drowned m t = subst (λ (u : WorldAsking). IsMade WorldAsking IsAsked u.host order.depth u t.drowned m t) e k in
     let r : w.injected ≤ t.world.injected = made-rises p order.depth m t refl k0 in
     let i : after.injected ≡ t.world.injected = ap (λ v. v.injected) f in
     omega (arith, r, i, g, h)
 
--- a mapper that stopped short over a world has begun a map there
-begun-over : (s t : WorldAsking) (depth : ℕ) → s.drowned ≡ 0 → StopsShort WorldAsking IsAsked IsCutAsk s.host depth [] s t → IsBegunMap s.host depth s.tries s.world t.world
-begun-over s t depth none (between_asks more growing kept led) =
-    let r = came-from s more t (omega (arith, none)) led in
-    stopped_between more growing kept (ap (λ (x : log.AskedAll). x.entries) r.asked) r.led
-begun-over s t depth none (within_ask more x between growing kept led ask cut) =
-    let r = came-from s more between (omega (arith, none)) led in
-    let way : IsPartWay between.world (log.ask s.host s.tries x between.world).events t.world =
-    subst (λ h. IsPartWay between.world (log.ask h s.tries x between.world).events t.world) r.host
-    (subst (λ k. IsPartWay between.world (log.ask between.host k x between.world).events t.world) r.tries cut.way) in
-    stopped_within more x between.world growing kept (ap (λ (y : log.AskedAll). y.entries) r.asked) r.led ask way
+-- its hosts are those of the world's fabric
+pub of-given : (w : WorldState) (order : MapOrder) (s : WorldAsking) (m : NetMap) → s ≡ given w order → AreOfFabric (fabric_at s.world.links.cables s.made) m → AreOfFabric (fabric_of w) m
+of-given w order s m e are = of-fabric (fabric_at s.world.links.cables s.made) (fabric_of w) m (ap (λ (u : WorldAsking). u.world.links.cables.hosts) e) are
 
-pub begun-from : (w : WorldState) (order : MapOrder) (s t : WorldAsking) (after : WorldState) → s ≡ record { world = w; host = order.host; tries = order.tries; drowned = 0 } → after ≡ t.world
+-- the world goes on by its asks
+asks-go : (w v : WorldState) (host tries : ℕ) (j : List Entry) → v ≡ (log.asks w.links.cables.changes host tries (map (λ e. e.walk) j) w).world → GoesOn w v
+asks-go w v host tries j led =
+    let l : Log log.AskedAll = log.asks w.links.cables.changes host tries (map (λ (e : Entry). e.walk) j) w in
+    let there : l.world ≡ after_all w l.events = (asks-row {Q = IsByteEvent} byte_asks (λ h wk looped. tt) w.links.cables.changes host tries (map (λ (e : Entry). e.walk) j) w).there in
+    subst (GoesOn w) (sym (led ∙ there)) (goes-events w l.events)
+
+pub made-goes : (w : WorldState) (order : MapOrder) (v : WorldState) (m : MadeMap) (packets : ℕ) → IsMadeOver order w v m packets → GoesOn w v
+made-goes w order v m packets over = asks-go w v order.host order.tries over.journal over.mapped.led
+
+pub begun-goes : (host depth tries : ℕ) (w v : WorldState) → IsBegunMap host depth tries w v → GoesOn w v
+begun-goes host depth tries w v (stopped_between j growing kept asked led) = asks-go w v host tries j led
+begun-goes host depth tries w v (stopped_within j x between growing kept asked led next way) =
+    goes-on w between v (asks-go w between host tries j led) (goes-way between v (log.ask w.links.cables.changes host tries x between).events way)
+
+-- a mapper that stopped short over a world has begun a map there
+begun-over : (s t : WorldAsking) (depth : ℕ) → s.made ≡ s.world.links.cables.changes → s.drowned ≡ 0 → StopsShort WorldAsking IsAsked IsCutAsk s.host depth [] s t → IsBegunMap s.host depth s.tries s.world t.world
+begun-over s t depth new none (between_asks more growing kept led) =
+    let r = came-from s more t (omega (arith, none)) led in
+    let asks : ℕ → Log log.AskedAll = λ made. log.asks made s.host s.tries (map (λ (e : Entry). e.walk) more) s.world in
+    stopped_between more growing kept (ap (λ made. (asks made).value.entries) (sym new) ∙ ap (λ (x : log.AskedAll). x.entries) r.asked) (r.led ∙ ap (λ made. (asks made).world) new)
+begun-over s t depth new none (within_ask more x between growing kept led ask cut) =
+    let r = came-from s more between (omega (arith, none)) led in
+    let asks : ℕ → Log log.AskedAll = λ made. log.asks made s.host s.tries (map (λ (e : Entry). e.walk) more) s.world in
+    let way : IsPartWay between.world (log.ask s.world.links.cables.changes s.host s.tries x between.world).events t.world =
+    subst (λ made. IsPartWay between.world (log.ask made s.host s.tries x between.world).events t.world) (r.made ∙ new)
+    (subst (λ h. IsPartWay between.world (log.ask between.made h s.tries x between.world).events t.world) r.host
+    (subst (λ k. IsPartWay between.world (log.ask between.made between.host k x between.world).events t.world) r.tries cut.way)) in
+    stopped_within more x between.world growing kept (ap (λ made. (asks made).value.entries) (sym new) ∙ ap (λ (y : log.AskedAll). y.entries) r.asked) (r.led ∙ ap (λ made. (asks made).world) new) ask way
+
+pub begun-from : (w : WorldState) (order : MapOrder) (s t : WorldAsking) (after : WorldState) → s ≡ given w order → after ≡ t.world
     → StopsShort WorldAsking IsAsked IsCutAsk s.host order.depth [] s t → IsBegunMap order.host order.depth order.tries w after
 begun-from w order s t after e f k =
-    let p : WorldAsking = record { world = w; host = order.host; tries = order.tries; drowned = 0 } in
+    let p : WorldAsking = given w order in
     let k0 : StopsShort WorldAsking IsAsked IsCutAsk order.host order.depth [] p t = subst (λ (u : WorldAsking). StopsShort WorldAsking IsAsked IsCutAsk u.host order.depth [] u t) e k in
-    subst (IsBegunMap order.host order.depth order.tries w) (sym f) (begun-over p t order.depth refl k0)
+    subst (IsBegunMap order.host order.depth order.tries w) (sym f) (begun-over p t order.depth refl refl k0)

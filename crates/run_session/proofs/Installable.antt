@@ -36,7 +36,7 @@ use Rattle.adopted_routes.specs.declared.routes.AdoptRefusal.TheVariants.{Epochs
 use Rattle.adopted_routes.proofs.Refusals.{refused_exactly, refused-not, refused-by, tells-host}
 use Rattle.fab_world.specs.Events.{IsHostOf}
 use Rattle.fab_world.specs.Held.{IsMoment}
-use Rattle.table_installing.specs.Installing.{IsUnrevoked, CanInstall}
+use Rattle.table_installing.specs.Installing.{IsUnrevoked, IsUnchanged, CanInstall}
 use Rattle.run_session.specs.Kept.{AreKeptRoutes}
 use Rattle.run_session.specs.Told.{IsOfLast}
 
@@ -44,7 +44,7 @@ use Rattle.run_session.specs.Told.{IsOfLast}
 pub may-be : (rs set : List Route) (w : WorldState) → set ≡ rs → adopt_refusal (standing_of w) set w.adopted ≡ None → may_adopt w rs ≡ true
 may-be rs set w same e = ap (λ (x : List Route). may_adopt w x) (sym same) ∙ sym (refused_exactly (standing_of w) set w.adopted) ∙ ap (λ (o : Option AdoptRefusal). is_none o) e
 
--- why an adoption is refused is why an installation is, unless memory ran out
+-- why an adoption is refused is why an installation is, where no cable changed and unless memory ran out
 pub cause-none : (rs : List Route) (w : WorldState) → adopt_refusal (standing_of w) rs w.adopted ≡ None → None ≡ (if may_adopt w rs then None else Some (adopt_cause w))
 cause-none rs w e = sym (ap (λ b. if b then None else Some (adopt_cause w)) (may-be rs rs w refl e))
 
@@ -288,6 +288,7 @@ kept-installable w l hosts tries (Some a) adopted there last idle k some few sam
     record {
       adopted = ap is_some adopted;
       unrevoked = subst (λ (o : Option Adoption). IfSome o (IsUnrevoked w)) (sym adopted) is.unrevoked;
+      unchanged = subst (λ (o : Option Adoption). IfSome o (IsUnchanged w)) (sym adopted) is.unchanged;
       idle = idle;
       rise = subst AreHosts (sym same) (kept-rise (fabric_of w) l k);
       named = subst (λ (o : Option Adoption). IfSome o (λ a. (h : ℕ) → list_any (nat_eq h) hosts ≡ is_among a.mapper a.routes h)) (sym adopted)

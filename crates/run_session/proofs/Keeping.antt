@@ -1,9 +1,11 @@
--- That a session keeps maps and routes that are right.
-use Rattle.std.proofs.Common.{◌≡◌, ℕ, ◌≤◌, true, Option, Some, None, refl, sym, ◌∙◌, ap, subst, arith}
+-- That a session keeps maps and routes that were right.
+use Rattle.std.proofs.Common.{◌≡◌, ℕ, ◌≤◌, true, List, length, Option, Some, None, refl, sym, ◌∙◌, ap, subst, arith}
+use Rattle.cable_history.specs.History.{CableHistory, fabric_at}
+use Rattle.net_defs.specs.declared.route.Route.{Route}
 use Rattle.link_defs.specs.Links.{is_idle}
 use Rattle.net_defs.specs.declared.vertex.Vertex.TheVariants.{Host}
 use Rattle.net_defs.specs.Network.{Network, has_vertex}
-use Rattle.map_defs.specs.NetMap.{NetMap}
+use Rattle.map_defs.specs.NetMap.{NetMap, IsConnected, switches_of}
 use Rattle.map_defs.specs.Orientation.{order_of}
 use Rattle.map_defs.specs.Routing.{AreRoutesOf}
 use Rattle.map_defs.specs.Sameness.{IsMapOfPart}
@@ -24,33 +26,28 @@ use Rattle.route_making.specs.Listed.{map_hosts_below}
 use Rattle.world_commands.specs.Done.{session_of}
 use Rattle.world_commands.proofs.Calls.{host-there}
 use Rattle.run_session.specs.declared.mapping.MapOrder.{MapOrder}
-use Rattle.run_session.specs.Kept.{IsKeptMap, AreKeptRoutes, IsKept, IsLastMap, AreLastRoutes}
+use Rattle.run_session.specs.Kept.{IsKeptMap, WasKeptMap, WereKeptRoutes, IsKept, IsLastMap, AreLastRoutes}
 use Rattle.run_session.specs.Told.{IsMadeOver, AreRoutesTold}
+use Rattle.run_session.proofs.Going.{of-fabric}
 
 -- a session with neither a map nor routes keeps both
 pub none_kept : (w : WorldState) → IsKept (session_of w None None)
 none_kept w = record { complete = λ l e. cc; routes = λ l e. cc }
 
--- what is kept over one world is kept over another of the same fabric
-pub kept-over : (w v : WorldState) (made : Option LastMap) (found : Option LastRoutes) → fabric_of v ≡ fabric_of w → IsLastMap (fabric_of w) made → AreLastRoutes (fabric_of w) found → IsKept (session_of v made found)
-kept-over w v made found same map routes = record {
-  complete = subst (λ n. IsLastMap n made) (sym same) map;
-  routes = subst (λ n. AreLastRoutes n found) (sym same) routes;
-}
-
 -- a map that was just made, where it says complete
-pub kept_last : (n : Network) (host : ℕ) (words : MapWords) (m : NetMap) → (words ≡ Complete → IsKeptMap n host m) → IsLastMap n (Some (record { mapper = host; words = words; made = m }))
-kept_last n host Complete m right l e =
-    let one : record { mapper = host; words = Complete; made = m } ≡ l = cc in
-    subst (λ (x : LastMap). IsKeptMap n x.mapper x.made) one (right refl)
-kept_last n host (Doubtful drowned) m right l e = cc
-kept_last n host IncompleteDepth m right l e = cc
-kept_last n host IncompleteNodes m right l e = cc
+pub kept_last : (h : CableHistory) (host : ℕ) (words : MapWords) (m : NetMap) (began : ℕ) → began ≤ h.changes → (words ≡ Complete → IsKeptMap (fabric_at h began) host m)
+    → IsLastMap h (Some (record { mapper = host; words = words; made = m; began = began }))
+kept_last h host Complete m began past right l e =
+    let one : record { mapper = host; words = Complete; made = m; began = began } ≡ l = cc in
+    subst (WasKeptMap h) one (record { past = past; kept = right refl })
+kept_last h host (Doubtful drowned) m began past right l e = cc
+kept_last h host IncompleteDepth m began past right l e = cc
+kept_last h host IncompleteNodes m began past right l e = cc
 
 -- a map can be made over a world at a moment
 pub can-map : (order : MapOrder) (before : WorldState) → IsMoment before → is_idle before.links ≡ true → has_vertex (fabric_of before) (Host order.host) ≡ true → order.depth ≤ 32 → CanMap order.host order.depth before
 can-map order before now idle there shallow = record {
-  fabric = now.fabric;
+  history = now.history;
   world = now.world;
   idle = idle;
   is_host = host-there before order.host now there;
@@ -78,20 +75,37 @@ kept-made order before after m packets now idle there shallow over hosts says =
       few = omega (arith, small, few);
     }
 
+-- a map that routes can be computed of: it is connected, of few switches, and of the hosts that are there
+pub was_connected : (h : CableHistory) (l : LastMap) → WasKeptMap h l → IsConnected l.made
+was_connected h l was = was.kept.connected
+
+pub was_few : (h : CableHistory) (l : LastMap) → WasKeptMap h l → length (switches_of l.made.vertices) ≤ 64
+was_few h l was = was.kept.few
+
+pub was_there : (w : WorldState) (l : LastMap) (n : Network) → n ≡ fabric_of w → WasKeptMap w.links.cables l → AreOfFabric n l.made
+was_there w l n same was = of-fabric (fabric_at w.links.cables l.began) n l.made (sym (ap (λ (k : Network). k.hosts) same)) was.kept.hosts
+
+-- the last routes of a map, with its hosts by address
+abbrev routes_of : WorldState → LastMap → List Route → LastRoutes
+routes_of w l routes = record { mapper = l.mapper; hosts = hosts_by_address w l.made; routes = routes; began = l.began }
+
 -- routes that were computed of such a map
-kept-routes : (w : WorldState) (l : LastMap) (found : LastRoutes) → IsMoment w → IsKeptMap (fabric_of w) l.mapper l.made → AreRoutesOf l.made (order_of l.made) found.routes → found.mapper ≡ l.mapper → found.hosts ≡ hosts_by_address w l.made → AreKeptRoutes (fabric_of w) found
-kept-routes w l found now kept are mapper hosts = record {
-  made = l.made;
-  kept = subst (λ h. IsKeptMap (fabric_of w) h l.made) (sym mapper) kept;
-  are = are;
-  hosts = hosts ∙ ap (λ count. map_hosts_below count l.made) now.world.hosts;
+kept-routes : (w : WorldState) (l : LastMap) (routes : List Route) → IsMoment w → WasKeptMap w.links.cables l → AreRoutesOf l.made (order_of l.made) routes → WereKeptRoutes w.links.cables (routes_of w l routes)
+kept-routes w l routes now was are = record {
+  past = was.past;
+  kept = record {
+    made = l.made;
+    kept = was.kept;
+    are = are;
+    hosts = ap (λ count. map_hosts_below count l.made) now.world.hosts;
+  };
 }
 
 -- they are the last ones
-pub kept_last_routes : (w : WorldState) (l : LastMap) (found : Option LastRoutes) (p : PrintedState) → IsMoment w → IsKeptMap (fabric_of w) l.mapper l.made → AreRoutesTold w l found p → AreLastRoutes (fabric_of w) found
-kept_last_routes w l found p now kept told x e =
-    let one : record { mapper = l.mapper; hosts = hosts_by_address w l.made; routes = told.routes } ≡ x = some-same (sym told.last ∙ e) in
-    subst (AreKeptRoutes (fabric_of w)) one (kept-routes w l (record { mapper = l.mapper; hosts = hosts_by_address w l.made; routes = told.routes }) now kept told.are refl refl)
+pub kept_last_routes : (w : WorldState) (l : LastMap) (found : Option LastRoutes) (p : PrintedState) → IsMoment w → WasKeptMap w.links.cables l → AreRoutesTold w l found p → AreLastRoutes w.links.cables found
+kept_last_routes w l found p now was told x e =
+    let one : routes_of w l told.routes ≡ x = some-same (sym told.last ∙ e) in
+    subst (WereKeptRoutes w.links.cables) one (kept-routes w l told.routes now was told.are)
   where
     some-same : {a b : LastRoutes} → Some a ≡ Some b → a ≡ b
     some-same p = cc

@@ -6,7 +6,7 @@ use Rattle.duo_defs.specs.declared.effect.DuoEffect.{DuoEffect}
 use Rattle.duo_defs.specs.declared.event.DuoEvent.{DuoEvent}
 use Rattle.duo_defs.specs.Duo.{DuoState}
 use Rattle.duo_defs.specs.Step.{step as duo_step}
-use Rattle.world_defs.specs.World.{WorldState, may_adopt, last_count}
+use Rattle.world_defs.specs.World.{WorldState, last_count}
 use Rattle.world_defs.specs.Settle.{unacknowledged_in}
 use Rattle.world_defs.specs.Log.{Log}
 use Rattle.world_defs.specs.Logs as log
@@ -17,7 +17,7 @@ use Rattle.run_defs.specs.declared.line.Line.TheVariants.{MapBusy, NoMap, Instal
 use Rattle.run_defs.specs.declared.line.InstallCause.TheVariants.{NoRoutes, Busy}
 use Rattle.run_defs.specs.Duos.{begun, beside, IsOther}
 use Rattle.run_defs.specs.Output.{OneLine, lines}
-use Rattle.run_defs.specs.Outcome.{Outcome, says_only, settled, table_line, installation, install_done, adopt_cause, routes_refused, duo_done, outcome}
+use Rattle.run_defs.specs.Outcome.{Outcome, says_only, settled, table_line, installation, install_done, may_install, refusal_cause, routes_refused, duo_done, outcome}
 use Rattle.run_defs.specs.Session.{SessionState, LastMap, LastRoutes, complete_map}
 use Rattle.promise_laws.proofs.Duos.{with-duo, outcome-beside}
 use Rattle.world_commands.specs.declared.out_of_memory.OutOfMemory.{OutOfMemory}
@@ -82,12 +82,12 @@ no-routes-missing w (Some l) tries none made = cc
 pub busy-install-missing : (w : WorldState) (l : LastRoutes) (tries : ℕ) → is_idle w.links ≡ false → (made : Option LastMap) → HidesNoRefusal (session_of w made (Some l)) (Install tries) w InLine
 busy-install-missing w l tries busy made =
     let s : SessionState = session_of w made (Some l) in
-    (says_only s (InstallRefused Busy ∷ []), ap (λ b. Some (choice s l tries b (may_adopt w l.routes) (adopt_cause w))) busy, refl)
+    (says_only s (InstallRefused Busy ∷ []), ap (λ b. Some (choice s l tries b (may_install w l) (refusal_cause w l))) busy, refl)
 
-pub refused-missing : (w : WorldState) (l : LastRoutes) (tries : ℕ) → is_idle w.links ≡ true → may_adopt w l.routes ≡ false → (made : Option LastMap) → HidesNoRefusal (session_of w made (Some l)) (Install tries) w InLine
+pub refused-missing : (w : WorldState) (l : LastRoutes) (tries : ℕ) → is_idle w.links ≡ true → may_install w l ≡ false → (made : Option LastMap) → HidesNoRefusal (session_of w made (Some l)) (Install tries) w InLine
 refused-missing w l tries idle may made =
     let s : SessionState = session_of w made (Some l) in
-    (says_only s (InstallRefused (adopt_cause w) ∷ []), ap (λ b. Some (choice s l tries b (may_adopt w l.routes) (adopt_cause w))) idle ∙ ap (λ b. Some (choice s l tries true b (adopt_cause w))) may, refl)
+    (says_only s (InstallRefused (refusal_cause w l) ∷ []), ap (λ b. Some (choice s l tries b (may_install w l) (refusal_cause w l))) idle ∙ ap (λ b. Some (choice s l tries true b (refusal_cause w l))) may, refl)
 
 -- what is printed of a count is no refusal
 counted-unrefused : (s : SessionState) (c : Command) (hosts : List ℕ) (l : Log ℕ) → outcome s c ≡ Some (install_done s hosts l) → IsRefused s c → ⊥
@@ -96,11 +96,11 @@ counted-unrefused s c hosts l is r =
     let bad : false ≡ true = ap is_refusal_line same ∙ r.refuses in
     cc
 
-pub install-unrefused : (w v : WorldState) (l : LastRoutes) (tries : ℕ) → is_idle w.links ≡ true → may_adopt w l.routes ≡ true → (made : Option LastMap) → HidesNoRefusal (session_of w made (Some l)) (Install tries) v InDoing
+pub install-unrefused : (w v : WorldState) (l : LastRoutes) (tries : ℕ) → is_idle w.links ≡ true → may_install w l ≡ true → (made : Option LastMap) → HidesNoRefusal (session_of w made (Some l)) (Install tries) v InDoing
 install-unrefused w v l tries idle may made =
     let s : SessionState = session_of w made (Some l) in
     counted-unrefused s (Install tries) l.hosts (installation s l tries)
-    (ap (λ b. Some (choice s l tries b (may_adopt w l.routes) (adopt_cause w))) idle ∙ ap (λ b. Some (choice s l tries true b (adopt_cause w))) may)
+    (ap (λ b. Some (choice s l tries b (may_install w l) (refusal_cause w l))) idle ∙ ap (λ b. Some (choice s l tries true b (refusal_cause w l))) may)
 
 -- an event of the two hosts that restart
 duo-kept : (s : SessionState) (e : DuoEvent) (x : DuoEffect × DuoState) → outcome s (Duo e) ≡ Some (duo_done s x) → IsRefused s (Duo e) → ⊥

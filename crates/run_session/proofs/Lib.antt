@@ -3,6 +3,7 @@ pub mod Asks
 pub mod Beside
 pub mod ByCommand
 pub mod Cutting
+pub mod Going
 pub mod Installable
 pub mod Installs
 pub mod Keeping

@@ -1,5 +1,6 @@
 -- That each command is obeyed, by what it printed.
 use Rattle.std.proofs.Common.{◌≡◌, ℕ, min, ◌∷◌, [], List, length, Option, Some, None, true, false, refl, sym, ◌∙◌, ap, if◌then◌else◌}
+use Rattle.cable_history.specs.Later.{OnlyPulled}
 use Rattle.link_defs.specs.Links.{is_idle}
 use Rattle.map_defs.specs.Orientation.{order_of}
 use Rattle.map_defs.specs.Routing.{AreRoutesOf}
@@ -22,6 +23,7 @@ use Rattle.world_commands.proofs.Done.{one}
 use Rattle.run_session.specs.declared.mapping.MapOrder.{MapOrder}
 use Rattle.run_session.specs.Obeyed.{IsObeyed}
 use Rattle.run_session.specs.Told.{AreRoutesTold, IsMadeOver, map_of}
+use Rattle.run_session.proofs.Going.{goes_pulled, printed-on}
 use Rattle.world_defs.specs.Logs as log
 
 -- what was done over the world of a session
@@ -33,11 +35,11 @@ done_so c d w v made found p done same = record {
 }
 
 -- a settle
-pub settled_so : (w v : WorldState) (p : PrintedState) → v ≡ (log.settle w).world
-    → p ≡ printed_of (fabric_of w) (OneLine (SettleLine (log.settle w).value.rounds (min (log.settle w).value.resets last_count) (unacknowledged_in (log.settle w).world)) ∷ []) → IsDone Settle w v p
-settled_so w v p same e =
+pub settled_so : (w v : WorldState) (p : PrintedState) → v ≡ (log.settle w).world → OnlyPulled w.links.cables v.links.cables
+    → p ≡ printed_of (fabric_of v) (OneLine (SettleLine (log.settle w).value.rounds (min (log.settle w).value.resets last_count) (unacknowledged_in (log.settle w).world)) ∷ []) → IsDone Settle w v p
+settled_so w v p same pulled e =
     let l : Line = SettleLine (log.settle w).value.rounds (min (log.settle w).value.resets last_count) (unacknowledged_in (log.settle w).world) in
-    one Settle l w v p (λ made found. ap (λ (u : WorldState). Some (record { output = OneLine l ∷ []; after = session_of u made found })) (sym same)) e
+    one Settle l w v p (λ made found. ap (λ (u : WorldState). Some (record { output = OneLine l ∷ []; after = session_of u made found })) (sym same)) (e ∙ printed-on w v (OneLine l ∷ []) (goes_pulled w v pulled))
 
 -- a command whose outcome is one line alone
 only : (s : SessionState) (c : Command) (l : Line) (p : PrintedState) → outcome s c ≡ Some (says_only s (l ∷ [])) → p ≡ printed_of (fabric_of s.world) (OneLine l ∷ []) → IsObeyed s c s p
@@ -50,7 +52,7 @@ busy_so s host depth tries p busy e =
 
 -- a map that was made is the last one
 pub mapped_so : (w v : WorldState) (order : MapOrder) (m : MadeMap) (packets : ℕ) (last now : Option LastMap) (p : PrintedState) → is_idle w.links ≡ true → IsMadeOver order w v m packets
-    → now ≡ Some (record { mapper = order.host; words = m.words; made = m.map }) → p ≡ printed_of (fabric_of w) (map_lines order.host m packets)
+    → now ≡ Some (record { mapper = order.host; words = m.words; made = m.map; began = w.links.cables.changes }) → p ≡ printed_of (fabric_of w) (map_lines order.host m packets)
     → (found : Option LastRoutes) → IsObeyed (session_of w last found) (map_of order) (session_of v now found) p
 mapped_so w v order m packets last now p idle over is e = λ found.
     let s : SessionState = session_of w last found in
@@ -74,12 +76,14 @@ pub no_map_so : (w : WorldState) (made : Option LastMap) (found : Option LastRou
 no_map_so w made found p none e = only (session_of w made found) Routes NoMap p (ap (routes_refused (session_of w made found)) none) e
 
 -- routes that were computed, with their text
-pub routes_told : (w : WorldState) (l : LastMap) (found : LastRoutes) (p : PrintedState) → found.mapper ≡ l.mapper → found.hosts ≡ hosts_by_address w l.made → AreRoutesOf l.made (order_of l.made) found.routes
+pub routes_told : (w : WorldState) (l : LastMap) (found : LastRoutes) (p : PrintedState) → found.mapper ≡ l.mapper → found.hosts ≡ hosts_by_address w l.made → found.began ≡ l.began → AreRoutesOf l.made (order_of l.made) found.routes
     → p ≡ printed_of (fabric_of w) (lines (routes_lines l.made found.routes)) → AreRoutesTold w l (Some found) p
-routes_told w l found p mapper hosts are e = record {
+routes_told w l found p mapper hosts began are e = record {
   routes = found.routes;
   are = are;
-  last = ap (λ h. Some (record { mapper = h; hosts = found.hosts; routes = found.routes })) mapper ∙ ap (λ (hs : List ℕ). Some (record { mapper = l.mapper; hosts = hs; routes = found.routes })) hosts;
+  last = ap (λ h. Some (record { mapper = h; hosts = found.hosts; routes = found.routes; began = found.began })) mapper
+      ∙ ap (λ (hs : List ℕ). Some (record { mapper = l.mapper; hosts = hs; routes = found.routes; began = found.began })) hosts
+      ∙ ap (λ k. Some (record { mapper = l.mapper; hosts = hosts_by_address w l.made; routes = found.routes; began = k })) began;
   printed = e;
 }
 

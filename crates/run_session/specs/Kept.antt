@@ -1,14 +1,16 @@
--- What a session keeps of maps and routes: a last map that says complete is one to compute routes of, and the last
--- routes are those of such a map.
+-- What a session keeps of maps and routes: a last map that says complete was one to compute routes of, and the last
+-- routes were those of such a map, in the fabric as it stood when that map began.
 use Rattle.std.specs.Prelude.{◌≡◌, ℕ, ◌≤◌, length, Option, Some}
 use Rattle.net_defs.specs.Network.{Network}
+use Rattle.cable_history.specs.History.{CableHistory, fabric_at}
 use Rattle.map_defs.specs.NetMap.{NetMap, IsMap, IsConnected, switches_of}
 use Rattle.map_defs.specs.Orientation.{order_of}
 use Rattle.map_defs.specs.Routing.{AreRoutesOf}
 use Rattle.map_defs.specs.Sameness.{IsMapOfPart}
-use Rattle.world_defs.specs.World.{fabric_of}
+use Rattle.world_defs.specs.World.{WorldState}
 use Rattle.run_defs.specs.Session.{SessionState, LastMap, LastRoutes, complete_map}
 use Rattle.map_canon.specs.Printing.{AreOfFabric}
+use Rattle.promise_laws.specs.OneAction.{VerticesStay}
 use Rattle.route_making.specs.Listed.{map_hosts_below}
 
 -- A map from a mapper that routes can be computed of: it is the mapper's part of the fabric, connected, and of no
@@ -27,15 +29,31 @@ pub record AreKeptRoutes (n : Network) (l : LastRoutes) : Type 0 where
   pub are : AreRoutesOf made (order_of made) l.routes
   pub hosts : l.hosts ≡ map_hosts_below (length n.hosts) made
 
--- a last map, where it says complete, is such a map
-abbrev pub IsLastMap : Network → Option LastMap → Type 0
-IsLastMap n made = (l : LastMap) → complete_map made ≡ Some l → IsKeptMap n l.mapper l.made
+-- A map was such a map of the fabric as it stood when it began.
+pub record WasKeptMap (h : CableHistory) (l : LastMap) : Type 0 where
+  pub past : l.began ≤ h.changes
+  pub kept : IsKeptMap (fabric_at h l.began) l.mapper l.made
 
--- last routes, where there are any, are such routes
-abbrev pub AreLastRoutes : Network → Option LastRoutes → Type 0
-AreLastRoutes n found = (l : LastRoutes) → found ≡ Some l → AreKeptRoutes n l
+-- Routes were such routes of the fabric as it stood when their map began.
+pub record WereKeptRoutes (h : CableHistory) (l : LastRoutes) : Type 0 where
+  pub past : l.began ≤ h.changes
+  pub kept : AreKeptRoutes (fabric_at h l.began) l
+
+-- a last map, where it says complete, was such a map
+abbrev pub IsLastMap : CableHistory → Option LastMap → Type 0
+IsLastMap h made = (l : LastMap) → complete_map made ≡ Some l → WasKeptMap h l
+
+-- last routes, where there are any, were such routes
+abbrev pub AreLastRoutes : CableHistory → Option LastRoutes → Type 0
+AreLastRoutes h found = (l : LastRoutes) → found ≡ Some l → WereKeptRoutes h l
 
 -- A session's last map, where it says complete, and its last routes are such.
 pub record IsKept (s : SessionState) : Type 0 where
-  pub complete : IsLastMap (fabric_of s.world) s.last_map
-  pub routes : AreLastRoutes (fabric_of s.world) s.last_routes
+  pub complete : IsLastMap s.world.links.cables s.last_map
+  pub routes : AreLastRoutes s.world.links.cables s.last_routes
+
+-- What a command leaves of a world's cables: the hosts and the switches, and every fabric of the past; changes go on.
+pub record GoesOn (w v : WorldState) : Type 0 where
+  pub vertices : VerticesStay w v
+  pub changes : w.links.cables.changes ≤ v.links.cables.changes
+  pub past : (k : ℕ) → k ≤ w.links.cables.changes → fabric_at v.links.cables k ≡ fabric_at w.links.cables k

@@ -17,7 +17,7 @@ use Rattle.run_defs.specs.Outcome.{install, table_line}
 use Rattle.run_defs.specs.Session.{LastMap, LastRoutes}
 use Rattle.fab_report.specs.Printed.{PrintedState, printed_of}
 use Rattle.map_making.specs.declared.making.MadeMap.{MadeMap}
-use Rattle.table_installing.specs.Installing.{IsUnrevoked}
+use Rattle.table_installing.specs.Installing.{IsUnrevoked, IsUnchanged}
 use Rattle.world_commands.specs.Done.{session_of}
 use Rattle.run_session.specs.declared.mapping.MapOrder.{MapOrder}
 
@@ -32,18 +32,25 @@ pub record IsMadeOver (order : MapOrder) (before after : WorldState) (m : MadeMa
   pub asks : m.asks ≡ length journal
   pub injected : packets ≡ after.injected - before.injected
 
--- Routes were computed of a map and reported: they are the last ones, with the map's mapper and its hosts by address.
+-- Routes were computed of a map and reported: they are the last ones, with the map's mapper, its hosts by address, and
+-- the changes of cables before it.
 pub record AreRoutesTold (w : WorldState) (l : LastMap) (found : Option LastRoutes) (told : PrintedState) : Type 0 where
   pub routes : List Route
   pub are : AreRoutesOf l.made (order_of l.made) routes
-  pub last : found ≡ Some (record { mapper = l.mapper; hosts = hosts_by_address w l.made; routes = routes })
+  pub last : found ≡ Some (record {
+    mapper = l.mapper;
+    hosts = hosts_by_address w l.made;
+    routes = routes;
+    began = l.began;
+  })
   pub printed : told ≡ printed_of (fabric_of w) (lines (routes_lines l.made routes))
 
--- An adopted set is the last routes, and no host has given up its epoch.
+-- An adopted set is the last routes, no host has given up its epoch, and no cable came or went since its adoption.
 pub record IsOfLast (w : WorldState) (l : LastRoutes) (a : Adoption) : Type 0 where
   pub mapper : a.mapper ≡ l.mapper
   pub routes : a.routes ≡ l.routes
   pub unrevoked : IsUnrevoked w a
+  pub unchanged : IsUnchanged w a
 
 -- The last routes, adopted as this set, were installed over a world and are reported: how many of their hosts have
 -- acknowledged all parts, of how many, and then each host's table.

@@ -1,7 +1,7 @@
 //! Every command of the fabric that makes no map, over the parts of a session.
 
 ghost use Rattle.std.specs.Prelude.{◌≡◌, ℕ, false, IfOk, IfErr, OnErr};
-ghost use Rattle.link_defs.specs.Links.{empty_links, is_idle};
+ghost use Rattle.link_defs.specs.Links.{is_idle};
 ghost use Rattle.world_defs.specs.World.{fabric_of};
 ghost use Rattle.run_defs.specs.declared.command.Command.TheVariants.{Map};
 ghost use Rattle.run_defs.specs.Duos.{IsOther};
@@ -9,7 +9,8 @@ ghost use Rattle.fab_script.specs.Ranges.{IsCommandOf};
 ghost use Rattle.promise_laws.specs.CutShort.{IsCutShort};
 ghost use Rattle.world_commands.specs.Cut.{HidesNoRefusal};
 ghost use Rattle.world_commands.specs.Done.{session_of};
-ghost use Rattle.run_session.specs.Kept.{IsLastMap, AreLastRoutes};
+ghost use Rattle.run_session.specs.Holding.{AreWalkLinks};
+ghost use Rattle.run_session.specs.Kept.{IsLastMap, AreLastRoutes, GoesOn};
 ghost use Rattle.run_session.specs.Obeyed.{IsObeyed};
 
 use crate::circuit_links::circuit;
@@ -18,9 +19,9 @@ use crate::last::{LastFound, LastMade};
 use crate::mapping::busy_text;
 use crate::routing::routes;
 use crate::settling::settle_text;
+use crate::walking::{WalkLinks, walk_text};
 use fab_report::Printed;
 use fab_world::World;
-use link_model::Links;
 use run_defs::Command;
 use std::alloc::Global;
 use world_commands::{OutOfMemory, do_one};
@@ -31,7 +32,7 @@ use world_commands::{OutOfMemory, do_one};
 pub(crate) fn obey_here(
     alloc: Global,
     w: &mut World,
-    links: &mut Links,
+    links: &mut WalkLinks,
     last_map: &Option<LastMade>,
     last_routes: &mut Option<LastFound>,
     c: &Command,
@@ -39,14 +40,14 @@ pub(crate) fn obey_here(
     requires command { IsCommandOf (fabric_of w.old) c.now }
     requires other { IsOther c.now }
     requires busy { (host depth tries : ℕ) → c.now ≡ Map host depth tries → is_idle w.old.links ≡ false }
-    requires map { IsLastMap (fabric_of w.old) last_map.now }
-    requires routes { AreLastRoutes (fabric_of w.old) last_routes.old }
-    requires links { links.old ≡ empty_links (fabric_of w.old) }
+    requires map { IsLastMap w.old.links.cables last_map.now }
+    requires routes { AreLastRoutes w.old.links.cables last_routes.old }
+    requires links { AreWalkLinks w.old.links.cables links.old }
     ensures obeyed { IfOk result (λ p. IsObeyed (session_of w.old last_map.now last_routes.old) c.now
         (session_of w.new last_map.now last_routes.new) p) }
-    ensures routes { AreLastRoutes (fabric_of w.old) last_routes.new }
-    ensures links { links.new ≡ links.old }
-    ensures fabric { fabric_of w.new ≡ fabric_of w.old }
+    ensures routes { AreLastRoutes w.old.links.cables last_routes.new }
+    ensures links { AreWalkLinks w.old.links.cables links.new }
+    ensures cables { GoesOn w.old w.new }
     ensures err { OnErr result (last_routes.new ≡ last_routes.old) }
     ensures cut { OnErr result (IsCutShort (session_of w.old last_map.now last_routes.old) c.now w.new) }
     ensures unrefused { IfErr result (HidesNoRefusal (session_of w.old last_map.now last_routes.old) c.now w.new) }
@@ -57,6 +58,7 @@ pub(crate) fn obey_here(
         Command::Routes => routes(alloc, w, last_map, last_routes),
         Command::Install { tries } => install_text(alloc, w, last_routes, *tries),
         Command::Settle => settle_text(alloc, w),
-        _ => do_one(alloc, w, links, c),
+        Command::Walk { host, walk } => walk_text(alloc, w, links, *host, walk.turns()),
+        _ => do_one(alloc, w, c),
     }
 }

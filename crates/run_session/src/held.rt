@@ -1,7 +1,7 @@
 //! What a session holds, behind its box.
 
 ghost use Rattle.std.specs.Prelude.{◌≡◌, true, Option, Some, None, option_map, IfOk, IfErr, OnErr};
-ghost use Rattle.link_defs.specs.Links.{empty_links, is_idle};
+ghost use Rattle.link_defs.specs.Links.{is_idle};
 ghost use Rattle.world_defs.specs.World.{fabric_of};
 ghost use Rattle.run_defs.specs.Duos.{beside, IsOther};
 ghost use Rattle.run_defs.specs.Session.{LastRoutes};
@@ -12,18 +12,18 @@ ghost use Rattle.promise_laws.specs.Duos.{IsDuoLeft};
 ghost use Rattle.world_commands.specs.Cut.{HidesNoRefusal};
 ghost use Rattle.world_commands.specs.Done.{session_of};
 ghost use Rattle.world_commands.specs.Duos.{IsDuoDone, IsDuoCut};
-ghost use Rattle.run_session.specs.Holding.{world_in};
-ghost use Rattle.run_session.specs.Kept.{IsKept, IsLastMap};
+ghost use Rattle.run_session.specs.Holding.{world_in, AreWalkLinks};
+ghost use Rattle.run_session.specs.Kept.{IsKept, IsLastMap, GoesOn};
 ghost use Rattle.run_session.specs.Obeyed.{IsObeyed};
 ghost use Rattle.run_session.specs.Told.{map_of};
 
 use crate::commands::obey_here;
 use crate::last::{LastFound, LastMade};
 use crate::mapping::{MapOrder, map, map_ordered};
+use crate::walking::WalkLinks;
 use fab_report::Printed;
 use fab_world::World;
 use gm_restart::{Duo, DuoEvent};
-use link_model::Links;
 use run_defs::Command;
 use std::alloc::Global;
 use std::marker::Model;
@@ -35,7 +35,7 @@ use world_commands::{OutOfMemory, duo, end_duo};
 pub(crate) struct Held {
     alloc: Global,
     world: Option<World>,
-    links: Links,
+    links: WalkLinks,
     last_map: Option<LastMade>,
     last_routes: Option<LastFound>,
     duo: Option<Duo>,
@@ -43,12 +43,10 @@ pub(crate) struct Held {
 
 impl Model for Held {
     ghost use Rattle.std.specs.Prelude.{◌≡◌, Some};
-    ghost use Rattle.link_defs.specs.Links.{empty_links};
-    ghost use Rattle.world_defs.specs.World.{fabric_of};
     ghost use Rattle.run_defs.specs.Duos.{beside};
     ghost use Rattle.run_defs.specs.Session.{SessionState};
     ghost use Rattle.world_commands.specs.Done.{session_of};
-    ghost use Rattle.run_session.specs.Holding.{world_in};
+    ghost use Rattle.run_session.specs.Holding.{world_in, AreWalkLinks};
     ghost use Rattle.run_session.specs.Kept.{IsKept};
 
     ghost Value = { SessionState };
@@ -56,14 +54,14 @@ impl Model for Held {
     ghost view = { λ h. beside (session_of (world_in h.world) h.last_map h.last_routes) h.duo };
 
     ghost invariant = { λ h. IsKept (session_of (world_in h.world) h.last_map h.last_routes)
-        × (h.links ≡ empty_links (fabric_of (world_in h.world))) × (h.world ≡ Some (world_in h.world)) };
+        × AreWalkLinks (world_in h.world).links.cables h.links × (h.world ≡ Some (world_in h.world)) };
 }
 
 impl Held {
     /// A world with links of its fabric, and neither a map nor routes.
     #[tactic(auto, using(crate::proofs::Keeping::none_kept))]
-    pub(crate) fn new(alloc: Global, world: World, links: Links) -> Held
-        requires { links ≡ empty_links (fabric_of world) }
+    pub(crate) fn new(alloc: Global, world: World, links: WalkLinks) -> Held
+        requires { AreWalkLinks world.links.cables links }
         ensures { result ≡ session_of world None None }
     {
         Held {
@@ -81,7 +79,7 @@ impl Held {
     pub(crate) fn obey(&mut self, alloc: Global, c: &Command) -> Result<Printed, OutOfMemory>
         requires command { IsCommandOf (fabric_of self.old.world) c.now }
         ensures obeyed { IfOk result (λ p. IsObeyed self.old c.now self.new p) }
-        ensures fabric { fabric_of self.new.world ≡ fabric_of self.old.world }
+        ensures cables { GoesOn self.old.world self.new.world }
         ensures kept_map { OnErr result (self.new.last_map ≡ self.old.last_map) }
         ensures kept_routes { OnErr result (self.new.last_routes ≡ self.old.last_routes) }
         ensures cut { OnErr result (IsCutShort self.old c.now self.new.world) }
@@ -100,7 +98,7 @@ impl Held {
         requires command { IsCommandOf (fabric_of self.old.world) c.now }
         requires other { IsOther c.now }
         ensures obeyed { IfOk result (λ p. IsObeyed self.old c.now self.new p) }
-        ensures fabric { fabric_of self.new.world ≡ fabric_of self.old.world }
+        ensures cables { GoesOn self.old.world self.new.world }
         ensures kept_map { OnErr result (self.new.last_map ≡ self.old.last_map) }
         ensures kept_routes { OnErr result (self.new.last_routes ≡ self.old.last_routes) }
         ensures cut { OnErr result (IsCutShort self.old c.now self.new.world) }
@@ -189,22 +187,22 @@ fn duo_text(
 fn obey_parts(
     alloc: Global,
     slot: &mut Option<World>,
-    links: &mut Links,
+    links: &mut WalkLinks,
     last_map: &mut Option<LastMade>,
     last_routes: &mut Option<LastFound>,
     c: &Command,
 ) -> Result<Printed, OutOfMemory>
     requires there { slot.old ≡ Some (world_in slot.old) }
     requires kept { IsKept (session_of (world_in slot.old) last_map.old last_routes.old) }
-    requires links { links.old ≡ empty_links (fabric_of (world_in slot.old)) }
+    requires links { AreWalkLinks (world_in slot.old).links.cables links.old }
     requires command { IsCommandOf (fabric_of (world_in slot.old)) c.now }
     requires other { IsOther c.now }
     ensures there { slot.new ≡ Some (world_in slot.new) }
     ensures kept { IsKept (session_of (world_in slot.new) last_map.new last_routes.new) }
-    ensures links { links.new ≡ empty_links (fabric_of (world_in slot.new)) }
+    ensures links { AreWalkLinks (world_in slot.new).links.cables links.new }
     ensures obeyed { IfOk result (λ p. IsObeyed (session_of (world_in slot.old) last_map.old last_routes.old) c.now
         (session_of (world_in slot.new) last_map.new last_routes.new) p) }
-    ensures fabric { fabric_of (world_in slot.new) ≡ fabric_of (world_in slot.old) }
+    ensures cables { GoesOn (world_in slot.old) (world_in slot.new) }
     ensures kept_map { OnErr result (last_map.new ≡ last_map.old) }
     ensures kept_routes { OnErr result (last_routes.new ≡ last_routes.old) }
     ensures cut { OnErr result (IsCutShort (session_of (world_in slot.old) last_map.old last_routes.old) c.now
@@ -222,7 +220,7 @@ fn obey_parts(
 }
 
 // Ends what a session keeps beside its world.
-fn end_kept(_links: Links, _last_map: Option<LastMade>, _last_routes: Option<LastFound>) {}
+fn end_kept(_links: WalkLinks, _last_map: Option<LastMade>, _last_routes: Option<LastFound>) {}
 
 // Ends the world of a slot, if there is one.
 fn end_slot(slot: Option<World>) {
@@ -243,13 +241,13 @@ fn map_slot(
     requires there { slot.old ≡ Some (world_in slot.old) }
     requires idle { is_idle (world_in slot.old).links ≡ true }
     requires order { IsCommandOf (fabric_of (world_in slot.old)) (map_of order) }
-    requires kept { IsLastMap (fabric_of (world_in slot.old)) last_map.old }
+    requires kept { IsLastMap (world_in slot.old).links.cables last_map.old }
     ensures there { slot.new ≡ Some (world_in slot.new) }
     ensures obeyed { IfOk result (λ p. (found : Option LastRoutes)
         → IsObeyed (session_of (world_in slot.old) last_map.old found) (map_of order)
         (session_of (world_in slot.new) last_map.new found) p) }
-    ensures kept { IsLastMap (fabric_of (world_in slot.old)) last_map.new }
-    ensures fabric { fabric_of (world_in slot.new) ≡ fabric_of (world_in slot.old) }
+    ensures kept { IsLastMap (world_in slot.new).links.cables last_map.new }
+    ensures cables { GoesOn (world_in slot.old) (world_in slot.new) }
     ensures err { OnErr result (last_map.new ≡ last_map.old) }
     ensures cut { OnErr result ((found : Option LastRoutes)
         → IsCutShort (session_of (world_in slot.old) last_map.old found) (map_of order) (world_in slot.new)) }

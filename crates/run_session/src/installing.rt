@@ -7,7 +7,7 @@ ghost use Rattle.world_defs.specs.World.{fabric_of, may_adopt, adopted_by};
 ghost use Rattle.world_defs.specs.Logs as log;
 ghost use Rattle.world_defs.specs.Row.{IsPartWay};
 ghost use Rattle.run_defs.specs.Output.{OneLine};
-ghost use Rattle.run_defs.specs.Outcome.{adopt_cause};
+ghost use Rattle.run_defs.specs.Outcome.{adopt_cause, may_install, refusal_cause};
 ghost use Rattle.world_defs.specs.Table.{Adoption};
 ghost use Rattle.run_defs.specs.Session.{LastMap, LastRoutes};
 ghost use Rattle.run_defs.specs.declared.command.Command.TheVariants.{Install};
@@ -17,7 +17,7 @@ ghost use Rattle.promise_laws.specs.CommandActs.{install_acts};
 ghost use Rattle.promise_laws.specs.CutShort.{IsPartActed};
 ghost use Rattle.world_commands.specs.Cut.{HidesNoRefusal};
 ghost use Rattle.world_commands.specs.Done.{session_of};
-ghost use Rattle.run_session.specs.Kept.{AreKeptRoutes};
+ghost use Rattle.run_session.specs.Kept.{AreKeptRoutes, AreLastRoutes, WereKeptRoutes, GoesOn};
 ghost use Rattle.run_session.specs.Told.{IsOfLast, AreInstalledTold, IsInstallTold};
 
 use crate::last::LastFound;
@@ -28,23 +28,24 @@ use std::alloc::{AllocError, Global};
 use table_installing::install;
 use world_commands::{OutOfMemory, one_line, print_tables};
 
-/// Installs the last routes, unless that is refused: no routes were computed, a channel holds a packet, a host hasn't
-/// given up the epoch of the adopted routes where that isn't kept, or there is no next one. Running out of memory
-/// leaves a world that a prefix of its acts leads to.
+/// Installs the last routes, unless that is refused: no routes were computed, a channel holds a packet, a cable was
+/// pulled or plugged since the map of the routes began, a host hasn't given up the epoch of the adopted routes where that
+/// isn't kept, or there is no next one. Running out of memory leaves a world that a prefix of its acts leads to.
+#[tactic(auto, using(crate::proofs::Going::goes_same))]
 pub(crate) fn install_text(
     alloc: Global,
     w: &mut World,
     last: &Option<LastFound>,
     tries: u8,
 ) -> Result<Printed, OutOfMemory>
-    requires kept { (l : LastRoutes) → last.now ≡ Some l → AreKeptRoutes (fabric_of w.old) l }
+    requires kept { AreLastRoutes w.old.links.cables last.now }
     requires some { 1 ≤ tries }
     requires few { tries ≤ 8 }
     ensures told { IfOk result (λ p. IsInstallTold w.old last.now tries w.new p) }
     ensures err { OnErr result (IsPartActed w.old (install_acts w.old tries last.now) w.new) }
     ensures unrefused { IfErr result (λ e. (made : Option LastMap)
         → HidesNoRefusal (session_of w.old made last.now) (Install tries) w.new e) }
-    ensures fabric { fabric_of w.new ≡ fabric_of w.old }
+    ensures cables { GoesOn w.old w.new }
 {
     match last {
         Some(l) => install_last(alloc, w, l, tries),
@@ -53,21 +54,21 @@ pub(crate) fn install_text(
 }
 
 // The same for the last routes.
-#[tactic(auto, using(crate::proofs::Installs::busy_told))]
+#[tactic(auto, using(crate::proofs::Installs::busy_told, crate::proofs::Going::goes_same))]
 fn install_last(
     alloc: Global,
     w: &mut World,
     l: &LastFound,
     tries: u8,
 ) -> Result<Printed, OutOfMemory>
-    requires kept { AreKeptRoutes (fabric_of w.old) l.now }
+    requires kept { WereKeptRoutes w.old.links.cables l.now }
     requires some { 1 ≤ tries }
     requires few { tries ≤ 8 }
     ensures told { IfOk result (λ p. IsInstallTold w.old (Some l.now) tries w.new p) }
     ensures err { OnErr result (IsPartActed w.old (install_acts w.old tries (Some l.now)) w.new) }
     ensures unrefused { IfErr result (λ e. (made : Option LastMap)
         → HidesNoRefusal (session_of w.old made (Some l.now)) (Install tries) w.new e) }
-    ensures fabric { fabric_of w.new ≡ fabric_of w.old }
+    ensures cables { GoesOn w.old w.new }
 {
     if w.links_idle() {
         return install_idle(alloc, w, l, tries);
@@ -76,6 +77,7 @@ fn install_last(
 }
 
 // The same while no channel holds a packet.
+#[tactic(auto, using(crate::proofs::Going::goes_same))]
 fn install_idle(
     alloc: Global,
     w: &mut World,
@@ -83,18 +85,31 @@ fn install_idle(
     tries: u8,
 ) -> Result<Printed, OutOfMemory>
     requires idle { is_idle w.old.links ≡ true }
-    requires kept { AreKeptRoutes (fabric_of w.old) l.now }
+    requires kept { WereKeptRoutes w.old.links.cables l.now }
     requires some { 1 ≤ tries }
     requires few { tries ≤ 8 }
     ensures told { IfOk result (λ p. IsInstallTold w.old (Some l.now) tries w.new p) }
     ensures err { OnErr result (IsPartActed w.old (install_acts w.old tries (Some l.now)) w.new) }
     ensures unrefused { IfErr result (λ e. (made : Option LastMap)
         → HidesNoRefusal (session_of w.old made (Some l.now)) (Install tries) w.new e) }
-    ensures fabric { fabric_of w.new ≡ fabric_of w.old }
+    ensures cables { GoesOn w.old w.new }
 {
-    match adoption_refused(w, l) {
+    match install_refused(w, l) {
         Some(cause) => refused_text(alloc, w, cause),
         None => install_adoptable(alloc, w, l, tries),
+    }
+}
+
+// Why the last routes aren't installed, where they may not be: a cable was pulled or plugged since their map began, or
+// they may not be adopted. It takes no memory.
+#[tactic(auto, using(crate::proofs::Installs::cause_adopts, crate::proofs::Installs::cause_changed))]
+fn install_refused(w: &World, l: &LastFound) -> Option<InstallCause>
+    ensures { result ≡ (if may_install w.now l.now then None else Some (refusal_cause w.now l.now)) }
+{
+    if l.began == w.changes() {
+        adoption_refused(w, l)
+    } else {
+        Some(InstallCause::Changed)
     }
 }
 
@@ -110,7 +125,7 @@ fn adoption_refused(w: &World, l: &LastFound) -> Option<InstallCause>
     }
 }
 
-// Installs the last routes, which may be adopted, while no channel holds a packet.
+// Installs the last routes, which may be installed, while no channel holds a packet.
 fn install_adoptable(
     alloc: Global,
     w: &mut World,
@@ -118,15 +133,16 @@ fn install_adoptable(
     tries: u8,
 ) -> Result<Printed, OutOfMemory>
     requires idle { is_idle w.old.links ≡ true }
-    requires may { may_adopt w.old l.now.routes ≡ true }
-    requires kept { AreKeptRoutes (fabric_of w.old) l.now }
+    requires may { may_install w.old l.now ≡ true }
+    requires kept { WereKeptRoutes w.old.links.cables l.now }
     requires some { 1 ≤ tries }
     requires few { tries ≤ 8 }
     ensures told { IfOk result (λ p. IsInstallTold w.old (Some l.now) tries w.new p) }
     ensures err { OnErr result (IsPartActed w.old (install_acts w.old tries (Some l.now)) w.new) }
     ensures doing { IfErr result (λ e. e ≡ OutOfMemory.InDoing) }
-    ensures fabric { fabric_of w.new ≡ fabric_of w.old }
+    ensures cables { GoesOn w.old w.new }
 {
+    w.moment();
     w.reached();
     let Ok(()) = adopt_last(alloc, w, l) else {
         return Err(OutOfMemory::InDoing);
@@ -161,6 +177,7 @@ fn adopt_last(alloc: Global, w: &mut World, l: &LastFound) -> Result<(), AllocEr
 }
 
 // Installs the last routes, which were just adopted, in an epoch that no host has given up.
+#[tactic(auto, using(crate::proofs::Going::goes_pulled))]
 fn install_adopted(
     alloc: Global,
     w: &mut World,
@@ -178,7 +195,7 @@ fn install_adopted(
     ensures err { (a : Adoption) → w.old.adopted ≡ Some a
         → OnErr result (IsPartWay w.old (log.install a l.now.hosts tries w.old).events w.new) }
     ensures doing { IfErr result (λ e. e ≡ OutOfMemory.InDoing) }
-    ensures fabric { fabric_of w.new ≡ fabric_of w.old }
+    ensures cables { GoesOn w.old w.new }
 {
     w.moment();
     let Ok(installed) = install(alloc, w, &l.hosts, tries) else {

@@ -8,12 +8,14 @@ use port_graph::RouteSet;
 use run_defs::MapWords;
 use std::marker::Model;
 
-/// The last map: by which mapper, how far it is known to be right, and the map.
+/// The last map: by which mapper, how far it is known to be right, the map, and after how many changes of cables it
+/// began.
 #[derive(Drop)]
 pub(crate) struct LastMade {
     pub(crate) mapper: u16,
     pub(crate) words: MapWords,
     pub(crate) made: FabricMap,
+    pub(crate) began: u64,
 }
 
 impl Model for LastMade {
@@ -21,15 +23,17 @@ impl Model for LastMade {
 
     ghost Value = { LastMap };
 
-    ghost view = { λ l. record { mapper = l.mapper; words = l.words; made = l.made } };
+    ghost view = { λ l. record { mapper = l.mapper; words = l.words; made = l.made; began = l.began } };
 }
 
-/// The last routes: the mapper and the hosts of their map, by address, and the routes.
+/// The last routes: the mapper and the hosts of their map, by address, the routes, and after how many changes of cables
+/// that map began.
 #[derive(Drop)]
 pub(crate) struct LastFound {
     pub(crate) mapper: u16,
     pub(crate) hosts: Vec<u16>,
     pub(crate) routes: RouteSet,
+    pub(crate) began: u64,
 }
 
 impl Model for LastFound {
@@ -37,7 +41,7 @@ impl Model for LastFound {
 
     ghost Value = { LastRoutes };
 
-    ghost view = { λ l. record { mapper = l.mapper; hosts = l.hosts.items; routes = l.routes } };
+    ghost view = { λ l. record { mapper = l.mapper; hosts = l.hosts.items; routes = l.routes; began = l.began } };
 }
 
 /// The last map, where it is complete.

@@ -1,8 +1,9 @@
 //! A map made over a world, and what it prints.
 
-ghost use Rattle.std.specs.Prelude.{◌≡◌, ◌<◌, ◌^◌, ◌∷◌, [], ℕ, true, false, Option, Some, IfOk, IfSome, IfNone};
-ghost use Rattle.std.specs.Prelude.{IfErr, OnOk, OnErr};
+ghost use Rattle.std.specs.Prelude.{◌≡◌, ◌≤◌, ◌<◌, ◌^◌, ◌∷◌, [], ℕ, true, false, Option, Some, IfOk};
+ghost use Rattle.std.specs.Prelude.{IfSome, IfNone, IfErr, OnOk, OnErr};
 ghost use Rattle.link_defs.specs.Links.{is_idle};
+ghost use Rattle.cable_history.specs.History.{fabric_at};
 ghost use Rattle.world_defs.specs.World.{fabric_of};
 ghost use Rattle.map_canon.specs.Printing.{AreOfFabric};
 ghost use Rattle.run_defs.specs.Output.{OneLine};
@@ -16,13 +17,13 @@ ghost use Rattle.fab_script.specs.Ranges.{IsCommandOf};
 ghost use Rattle.map_making.specs.Lines.{map_lines};
 ghost use Rattle.world_commands.specs.Done.{session_of};
 ghost use Rattle.promise_laws.specs.CutShort.{IsCutShort, IsBegunMap};
-ghost use Rattle.run_session.specs.Kept.{IsKeptMap, IsLastMap};
+ghost use Rattle.run_session.specs.Kept.{IsKeptMap, IsLastMap, GoesOn};
 ghost use Rattle.run_session.specs.Obeyed.{IsObeyed};
 ghost use Rattle.run_session.specs.Told.{IsMadeOver, map_of};
 
 use crate::last::LastMade;
 use fab_report::Printed;
-use fab_world::{Fabric, World};
+use fab_world::World;
 use map_making::{MadeMap, make_map, print_made};
 use run_defs::{Command, Line};
 use std::alloc::{AllocError, Global};
@@ -76,12 +77,12 @@ pub(crate) fn map(
 ) -> (World, Result<Printed, OutOfMemory>)
     requires idle { is_idle world.links ≡ true }
     requires order { IsCommandOf (fabric_of world) (map_of order) }
-    requires kept { IsLastMap (fabric_of world) last_map.old }
+    requires kept { IsLastMap world.links.cables last_map.old }
     ensures obeyed { IfOk result.1 (λ p. (found : Option LastRoutes)
         → IsObeyed (session_of world last_map.old found) (map_of order)
         (session_of result.0 last_map.new found) p) }
-    ensures kept { IsLastMap (fabric_of world) last_map.new }
-    ensures fabric { fabric_of result.0 ≡ fabric_of world }
+    ensures kept { IsLastMap result.0.links.cables last_map.new }
+    ensures cables { GoesOn world result.0 }
     ensures err { OnErr result.1 (last_map.new ≡ last_map.old) }
     ensures cut { OnErr result.1 ((found : Option LastRoutes)
         → IsCutShort (session_of world last_map.old found) (map_of order) result.0) }
@@ -91,18 +92,19 @@ pub(crate) fn map(
     let (world, mapping) = map_world(alloc, world, order);
     match mapping {
         Ok(mapping) => {
-            let text = keep_map(alloc, world.fabric(), order.host, mapping, last_map);
+            let text = keep_map(alloc, &world, order.host, mapping, last_map);
             (world, text)
         }
         Err(_) => (world, Err(OutOfMemory::InDoing)),
     }
 }
 
-// A map, and how many packets its asks injected.
+// A map, how many packets its asks injected, and after how many changes of cables it began.
 #[derive(Drop)]
 struct Mapping {
     made: MadeMap,
     packets: u64,
+    began: u64,
 }
 
 // Maps from a host of an idle world: the world then, and the map, unless memory ran out.
@@ -111,11 +113,13 @@ fn map_world(alloc: Global, world: World, order: MapOrder) -> (World, Result<Map
     requires order { IsCommandOf (fabric_of world) (map_of order) }
     ensures mapped { IfOk result.1 (λ m. IsMadeOver order world result.0 m.made m.packets) }
     ensures of_fabric { IfOk result.1 (λ m. AreOfFabric (fabric_of world) m.made.map) }
-    ensures fabric { fabric_of result.0 ≡ fabric_of world }
+    ensures began { IfOk result.1 (λ m. m.began ≡ world.links.cables.changes) }
+    ensures cables { GoesOn world result.0 }
     ensures begun { OnErr result.1 (IsBegunMap order.host order.depth order.tries world result.0) }
 {
     world.moment();
     let before = world.injected();
+    let began = world.changes();
     let mut p = WorldProber::new(alloc, world, order.host, order.tries);
     let made = make_map(alloc, &mut p, order.depth);
     let world = p.into_world();
@@ -123,7 +127,12 @@ fn map_world(alloc: Global, world: World, order: MapOrder) -> (World, Result<Map
         Ok(made) => {
             count_fits(made.asks);
             let packets = world.injected() - before;
-            (world, Ok(Mapping { made, packets }))
+            let mapping = Mapping {
+                made,
+                packets,
+                began,
+            };
+            (world, Ok(mapping))
         }
         Err(wanting) => (world, Err(wanting)),
     }
@@ -137,29 +146,37 @@ const fn count_fits(_asks: u64)
 // The text of a map, which is the last one then.
 fn keep_map(
     alloc: Global,
-    f: &Fabric,
+    w: &World,
     host: u16,
     mapping: Mapping,
     last_map: &mut Option<LastMade>,
 ) -> Result<Printed, OutOfMemory>
-    requires there { IsHost f.now host }
-    requires hosts { AreOfFabric f.now mapping.made.map }
-    requires right { mapping.made.words ≡ Complete → IsKeptMap f.now host mapping.made.map }
-    requires kept { IsLastMap f.now last_map.old }
-    ensures text { IfOk result (λ p. p ≡ printed_of f.now (map_lines host mapping.made mapping.packets)) }
-    ensures last { OnOk result (last_map.new ≡ Some
-        (record { mapper = host; words = mapping.made.words; made = mapping.made.map })) }
-    ensures kept { IsLastMap f.now last_map.new }
+    requires there { IsHost (fabric_of w.now) host }
+    requires hosts { AreOfFabric (fabric_of w.now) mapping.made.map }
+    requires past { mapping.began ≤ w.now.links.cables.changes }
+    requires right { mapping.made.words ≡ Complete
+        → IsKeptMap (fabric_at w.now.links.cables mapping.began) host mapping.made.map }
+    requires kept { IsLastMap w.now.links.cables last_map.old }
+    ensures text { IfOk result (λ p. p ≡ printed_of (fabric_of w.now)
+        (map_lines host mapping.made mapping.packets)) }
+    ensures last { OnOk result (last_map.new ≡ Some (record {
+      mapper = host;
+      words = mapping.made.words;
+      made = mapping.made.map;
+      began = mapping.began;
+    })) }
+    ensures kept { IsLastMap w.now.links.cables last_map.new }
     ensures err { OnErr result (last_map.new ≡ last_map.old) }
     ensures doing { IfErr result (λ e. e ≡ OutOfMemory.InDoing) }
 {
-    let Ok(text) = print_made(alloc, f, host, &mapping.made, mapping.packets) else {
+    let Ok(text) = print_made(alloc, w.fabric(), host, &mapping.made, mapping.packets) else {
         return Err(OutOfMemory::InDoing);
     };
     *last_map = Some(LastMade {
         mapper: host,
         words: mapping.made.words,
         made: mapping.made.map,
+        began: mapping.began,
     });
     Ok(text)
 }

@@ -1,11 +1,10 @@
 //! The routes of the last map, and their text.
 
 ghost use Rattle.std.specs.Prelude.{◌≡◌, IfOk, IfErr, OnErr};
-ghost use Rattle.world_defs.specs.World.{fabric_of};
 ghost use Rattle.run_defs.specs.declared.command.Command.TheVariants.{Routes};
 ghost use Rattle.world_commands.specs.Cut.{HidesNoRefusal};
 ghost use Rattle.world_commands.specs.Done.{session_of};
-ghost use Rattle.run_session.specs.Kept.{IsKeptMap, IsLastMap, AreLastRoutes};
+ghost use Rattle.run_session.specs.Kept.{WasKeptMap, IsLastMap, AreLastRoutes};
 ghost use Rattle.run_session.specs.Obeyed.{IsObeyed};
 ghost use Rattle.run_session.specs.Told.{AreRoutesTold};
 
@@ -17,7 +16,8 @@ use run_defs::Line;
 use std::alloc::Global;
 use world_commands::{OutOfMemory, one_line};
 
-/// Computes the routes of the last map, which are the last ones then; refused unless that map says complete.
+/// Computes the routes of the last map, which are the last ones then; refused unless that map says complete. They are
+/// of the fabric as it stood when that map began, whatever was pulled or plugged since.
 #[tactic(auto, using(crate::proofs::Obeying::no_map_so, crate::proofs::Obeying::routed_so))]
 pub(crate) fn routes(
     alloc: Global,
@@ -25,11 +25,11 @@ pub(crate) fn routes(
     last_map: &Option<LastMade>,
     last_routes: &mut Option<LastFound>,
 ) -> Result<Printed, OutOfMemory>
-    requires map { IsLastMap (fabric_of w.now) last_map.now }
-    requires kept { AreLastRoutes (fabric_of w.now) last_routes.old }
+    requires map { IsLastMap w.now.links.cables last_map.now }
+    requires kept { AreLastRoutes w.now.links.cables last_routes.old }
     ensures obeyed { IfOk result (λ p. IsObeyed (session_of w.now last_map.now last_routes.old) Routes
         (session_of w.now last_map.now last_routes.new) p) }
-    ensures kept { AreLastRoutes (fabric_of w.now) last_routes.new }
+    ensures kept { AreLastRoutes w.now.links.cables last_routes.new }
     ensures err { OnErr result (last_routes.new ≡ last_routes.old) }
     ensures unrefused { IfErr result
         (HidesNoRefusal (session_of w.now last_map.now last_routes.old) Routes w.now) }
@@ -41,17 +41,17 @@ pub(crate) fn routes(
 }
 
 // The text of the routes of a complete map, which are the last ones then.
-#[tactic(auto, using(crate::proofs::Obeying::routes_told, crate::proofs::Keeping::kept_last_routes))]
+#[tactic(auto, using(crate::proofs::Obeying::routes_told, crate::proofs::Keeping::kept_last_routes, crate::proofs::Keeping::was_connected, crate::proofs::Keeping::was_few, crate::proofs::Keeping::was_there))]
 fn keep_routes(
     alloc: Global,
     w: &World,
     last: &LastMade,
     last_routes: &mut Option<LastFound>,
 ) -> Result<Printed, OutOfMemory>
-    requires right { IsKeptMap (fabric_of w.now) last.now.mapper last.now.made }
-    requires kept { AreLastRoutes (fabric_of w.now) last_routes.old }
+    requires right { WasKeptMap w.now.links.cables last.now }
+    requires kept { AreLastRoutes w.now.links.cables last_routes.old }
     ensures told { IfOk result (λ p. AreRoutesTold w.now last.now last_routes.new p) }
-    ensures kept { AreLastRoutes (fabric_of w.now) last_routes.new }
+    ensures kept { AreLastRoutes w.now.links.cables last_routes.new }
     ensures err { OnErr result (last_routes.new ≡ last_routes.old) }
     ensures doing { IfErr result (λ e. e ≡ OutOfMemory.InDoing) }
 {
@@ -66,6 +66,7 @@ fn keep_routes(
         mapper: last.mapper,
         hosts,
         routes: made.set,
+        began: last.began,
     });
     Ok(made.printed)
 }

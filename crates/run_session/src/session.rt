@@ -7,13 +7,14 @@ ghost use Rattle.fab_script.specs.Ranges.{IsCommandOf};
 ghost use Rattle.promise_laws.specs.CutShort.{IsCutShort};
 ghost use Rattle.promise_laws.specs.Duos.{IsDuoLeft};
 ghost use Rattle.world_commands.specs.Cut.{HidesNoRefusal};
+ghost use Rattle.run_session.specs.Kept.{GoesOn};
 ghost use Rattle.run_session.specs.Obeyed.{IsObeyed, IsObeyedIn};
 
 use crate::held::Held;
+use crate::walking::walk_links;
 use fab_report::Printed;
 use fab_world::{Fabric, World};
 use gm_restart::Duo;
-use link_model::Links;
 use run_defs::Command;
 use std::alloc::{AllocError, Global};
 use std::marker::Model;
@@ -22,8 +23,8 @@ use world_commands::OutOfMemory;
 /// What a run holds from command to command: its world, the last map and the last routes, and the two hosts that
 /// restart, once they have begun.
 ///
-/// A walk's packet takes links of its own, which are empty between commands, so that it meets no other packet. It
-/// must be spent, by [`Session::end`].
+/// A walk's packet takes links of its own, which are empty between commands, so that it meets no other packet; they are
+/// made anew before a walk where a cable was pulled or plugged. It must be spent, by [`Session::end`].
 pub struct Session {
     held: Box<Held>,
 }
@@ -43,7 +44,7 @@ impl Session {
         ensures fabric { IfOk result (λ s. fabric_of s.world ≡ fabric) }
     {
         let world = World::new(alloc, fabric)?;
-        match Links::new(alloc, world.fabric()) {
+        match walk_links(alloc, &world) {
             Ok(links) => Session::boxed(alloc, Held::new(alloc, world, links)),
             Err(wanting) => {
                 world.end();
@@ -68,8 +69,8 @@ impl Session {
     /// Does a command over its fabric: the session then, and the text of what it printed. Where memory runs out, the
     /// session comes back with a world that a prefix of the command's acts leads to, and with the last map and the last
     /// routes as they were; the two hosts that restart are as they were, or new, where the command is their first
-    /// event, or as it leaves them. A command `circuit` leaves the session as it is. Where it ran out,
-    /// [`Session::perform`] says.
+    /// event, or as it leaves them. A command `circuit` leaves the session as it is. Hosts, switches and the fabric of the
+    /// past stay, whatever a command did to cables. Where memory ran out, [`Session::perform`] says.
     pub fn exec(
         self,
         alloc: Global,
@@ -77,8 +78,8 @@ impl Session {
     ) -> Result<(Session, Vec<u8>), (Session, AllocError)>
         requires command { IsCommandOf (fabric_of self.world) c.now }
         ensures ok { IfOk result (λ r. IsObeyedIn self c.now r.0 r.1.items) }
-        ensures fabric { IfOk result (λ r. fabric_of r.0.world ≡ fabric_of self.world) }
-        ensures err { IfErr result (λ r. fabric_of r.0.world ≡ fabric_of self.world) }
+        ensures cables { IfOk result (λ r. GoesOn self.world r.0.world) }
+        ensures err { IfErr result (λ r. GoesOn self.world r.0.world) }
         ensures kept_map { IfErr result (λ r. r.0.last_map ≡ self.last_map) }
         ensures kept_routes { IfErr result (λ r. r.0.last_routes ≡ self.last_routes) }
         ensures cut { IfErr result (λ r. IsCutShort self c.now r.0.world) }
@@ -99,8 +100,8 @@ impl Session {
     ) -> Result<(Session, Printed), (Session, OutOfMemory)>
         requires command { IsCommandOf (fabric_of self.world) c.now }
         ensures ok { IfOk result (λ r. IsObeyed self c.now r.0 r.1) }
-        ensures fabric { IfOk result (λ r. fabric_of r.0.world ≡ fabric_of self.world) }
-        ensures err { IfErr result (λ r. fabric_of r.0.world ≡ fabric_of self.world) }
+        ensures cables { IfOk result (λ r. GoesOn self.world r.0.world) }
+        ensures err { IfErr result (λ r. GoesOn self.world r.0.world) }
         ensures kept_map { IfErr result (λ r. r.0.last_map ≡ self.last_map) }
         ensures kept_routes { IfErr result (λ r. r.0.last_routes ≡ self.last_routes) }
         ensures cut { IfErr result (λ r. IsCutShort self c.now r.0.world) }

@@ -1,13 +1,13 @@
 //! A settle, and its text.
 
 ghost use Rattle.std.specs.Prelude.{◌≡◌, Option, IfOk, IfErr, OnErr};
-ghost use Rattle.world_defs.specs.World.{fabric_of};
 ghost use Rattle.world_defs.specs.Logs as log;
 ghost use Rattle.world_defs.specs.Row.{IsPartWay};
 ghost use Rattle.run_defs.specs.declared.command.Command.TheVariants.{Settle};
 ghost use Rattle.run_defs.specs.Session.{LastMap, LastRoutes};
 ghost use Rattle.world_commands.specs.Cut.{HidesNoRefusal};
 ghost use Rattle.world_commands.specs.Done.{IsDone, session_of};
+ghost use Rattle.run_session.specs.Kept.{GoesOn};
 
 use fab_report::Printed;
 use fab_world::World;
@@ -18,13 +18,13 @@ use world_drain::settle;
 
 /// Settles a world: its text is the line of what that came to. Running out of memory leaves a world that a prefix of
 /// its events leads to.
-#[tactic(auto, using(crate::proofs::Obeying::settled_so))]
+#[tactic(auto, using(crate::proofs::Obeying::settled_so, crate::proofs::Going::goes_pulled))]
 pub(crate) fn settle_text(alloc: Global, w: &mut World) -> Result<Printed, OutOfMemory>
     ensures done { IfOk result (λ p. IsDone Settle w.old w.new p) }
     ensures err { OnErr result (IsPartWay w.old (log.settle w.old).events w.new) }
     ensures unrefused { IfErr result (λ e. (made : Option LastMap) → (found : Option LastRoutes)
         → HidesNoRefusal (session_of w.old made found) Settle w.new e) }
-    ensures fabric { fabric_of w.new ≡ fabric_of w.old }
+    ensures cables { GoesOn w.old w.new }
 {
     let Ok(settled) = settle(alloc, w) else {
         return Err(OutOfMemory::InDoing);

@@ -1,9 +1,10 @@
 -- After the last pass no host with a cable has anything to send.
-use Rattle.std.proofs.Common.{◌≡◌, ◌<◌, ℕ, Bool, true, false, ◌||◌, List, [], ◌∷◌, map, nat_eq, None, is_some, refl, sym, ap, ◌∙◌, subst, arith, true≢false}
+use Rattle.std.proofs.Common.{◌≡◌, ◌<◌, ℕ, Bool, true, false, not, ◌&&◌, ◌||◌, List, [], ◌∷◌, map, nat_eq, Option, Some, None, is_some, refl, sym, ap, ◌∙◌, subst, arith, true≢false}
 use Rattle.std.specs.List.{AllByRecursion}
 use Rattle.std.proofs.lemmas.Bool.Decides.{nat_tests}
-use Rattle.net_defs.specs.Route.{host_port}
-use Rattle.cable_history.specs.Crossed.{leaving}
+use Rattle.std.specs.Option.{option_map_or}
+use Rattle.std.proofs.lemmas.Option.{same_Some}
+use Rattle.cable_history.specs.Crossed.{is_new}
 use Rattle.link_defs.specs.declared.replayed.Replayed.{Replayed}
 use Rattle.link_defs.specs.declared.replayed.Replayed.TheVariants.{Back, Busy, Unknown}
 use Rattle.link_defs.specs.Links.{LinkState, is_idle}
@@ -11,9 +12,9 @@ use Rattle.link_defs.specs.Fault.{replay}
 use Rattle.world_defs.specs.declared.event.Event.TheVariants.{Inject, Replay, GiveUp}
 use Rattle.world_defs.specs.declared.effect.Effect.{Effect}
 use Rattle.world_defs.specs.declared.effect.Effect.TheVariants.{Idle}
-use Rattle.world_defs.specs.Node.{to_send}
+use Rattle.world_defs.specs.Node.{Outgoing, is_message, to_send}
 use Rattle.world_defs.specs.Logs.{clear, replays, round_pass, is_last_pass}
-use Rattle.world_defs.specs.World.{WorldState, host_count, last_count, node_at, addresses}
+use Rattle.world_defs.specs.World.{WorldState, host_count, last_count, node_at, addresses, may_send, has_to_send}
 use Rattle.world_defs.specs.Step.{of_replay, replayed, step, steps, after_all}
 use Rattle.world_defs.specs.Drain.{changed, changes}
 use Rattle.world_defs.specs.Settle.{serials, is_quiet}
@@ -25,6 +26,7 @@ use Rattle.world_laws.proofs.Meanings.{quiet-test}
 use Rattle.settle_laws.proofs.Views.{InjectOf, inject-is}
 use Rattle.settle_laws.proofs.Staged.{given_up-links}
 use Rattle.settle_laws.proofs.Plain.{idle-empty}
+use Rattle.settle_laws.proofs.Whole.{IsCabled}
 
 -- injections that change nothing
 record AreIdle (w : WorldState) (hs : List ℕ) : Type 0 where
@@ -33,7 +35,7 @@ record AreIdle (w : WorldState) (hs : List ℕ) : Type 0 where
 
 inject-idle : (w : WorldState) (h : ℕ) (r : Effect × WorldState) → InjectOf w h r → changed r.0 ≡ false → (r.0 ≡ Idle) × (r.1 ≡ w)
 inject-idle w h r (InjectOf.idle e s) c = (e, s)
-inject-idle w h r (InjectOf.sends d out chan e none x s) c = absurd (true≢false (sym (ap changed x) ∙ c))
+inject-idle w h r (InjectOf.sends d out chan e none allowed x s) c = absurd (true≢false (sym (ap changed x) ∙ c))
 
 injects-idle : (w : WorldState) (hs : List ℕ) → changes (steps w (map Inject hs)).0 ≡ 0 → AreIdle w hs
 injects-idle w [] e = record { same = refl; each = tt }
@@ -96,12 +98,23 @@ idle-pass w idle e =
     let rest = replays-idle (serials v) v (ap (λ x. is_idle x.links) cleared ∙ still) (omega (arith, e)) in
     record { given = t; links = links; same = rest ∙ cleared; each = first.each }
 
--- a host with a cable over idle links, while injections are left
-cannot-inject : (w : WorldState) (h : ℕ) → is_idle w.links ≡ true → is_some (leaving w.links.cables (host_port h)) ≡ true → w.injected < last_count → CannotInject w h → to_send h (node_at w h) ≡ None
-cannot-inject w h idle cable left (CannotInject.no_cable e) = absurd (true≢false (sym cable ∙ ap is_some e))
+-- a host with a cable that isn't new, over idle links, while injections are left
+cannot-inject : (w : WorldState) (h : ℕ) → is_idle w.links ≡ true → IsCabled w.links.cables h → w.injected < last_count → CannotInject w h → to_send h (node_at w h) ≡ None
+cannot-inject w h idle cable left (CannotInject.no_cable e) = absurd (true≢false (sym (ap is_some cable.out) ∙ ap is_some e))
 cannot-inject w h idle cable left (CannotInject.nothing_to_send e) = e
 cannot-inject w h idle cable left (CannotInject.channel_full c e full) = absurd (true≢false (sym full ∙ ap is_some (idle-empty w.links.channels idle c)))
 cannot-inject w h idle cable left (CannotInject.used_up e) = absurd (omega (arith, left, e))
+cannot-inject w h idle cable left (CannotInject.new_cable c out e new item message) =
+    let same : cable.channel ≡ c = same_Some cable.channel c (sym cable.out ∙ e) in
+    absurd (true≢false (sym new ∙ sym (ap (is_new w.links.cables) same) ∙ cable.old))
+
+-- nor has it anything to send in a quiet world
+quiet-none : (w : WorldState) (h : ℕ) → IsCabled w.links.cables h → has_to_send w h ≡ false → to_send h (node_at w h) ≡ None
+quiet-none w h cable e = by (to_send h (node_at w h)) (sym (ap (λ o. option_map_or (λ c. may_send w c (to_send h (node_at w h))) o false) cable.out) ∙ e)
+  where
+    by : (o : Option Outgoing) → may_send w cable.channel o ≡ false → o ≡ None
+    by None d = refl
+    by (Some out) d = absurd (true≢false (sym (ap (λ b. not (b && is_message out)) cable.old) ∙ d))
 
 last-of : (a b : Bool) → (a || b) ≡ true → a ≡ false → b ≡ true
 last-of true b e f = absurd (true≢false f)
@@ -109,8 +122,8 @@ last-of false b e f = e
 
 -- the last pass
 pub nothing-left : (w : WorldState) (h : ℕ) → is_idle w.links ≡ true → is_last_pass w (round_pass w) ≡ true → h < host_count w → h < host_count (round_pass w).world
-    → is_some (leaving w.links.cables (host_port h)) ≡ true → (round_pass w).world.injected < last_count → to_send h (node_at (round_pass w).world h) ≡ None
-nothing-left w h idle e low below cable left = by (is_quiet z) refl
+    → IsCabled w.links.cables h → IsCabled (round_pass w).world.links.cables h → (round_pass w).world.injected < last_count → to_send h (node_at (round_pass w).world h) ≡ None
+nothing-left w h idle e low below cable after left = by (is_quiet z) refl
   where
     z : WorldState
     z = (round_pass w).world
@@ -119,11 +132,11 @@ nothing-left w h idle e low below cable left = by (is_quiet z) refl
     stopped p =
         let here : (step p.given (Inject h)).0 ≡ Idle = range-all (λ j. (step p.given (Inject j)).0 ≡ Idle) (host_count w) p.each h low in
         let still : is_idle p.given.links ≡ true = ap is_idle p.links ∙ idle in
-        let there : is_some (leaving p.given.links.cables (host_port h)) ≡ true = ap (λ l. is_some (leaving l.cables (host_port h))) p.links ∙ cable in
+        let there : IsCabled p.given.links.cables h = subst (λ l. IsCabled l.cables h) (sym p.links) cable in
         ap (λ v. to_send h (node_at v h)) p.same ∙ cannot-inject p.given h still there (subst (λ v. v.injected < last_count) p.same left) ((step-idle p.given (Inject h)).from here)
 
     by : (t : Bool) → is_quiet z ≡ t → to_send h (node_at z h) ≡ None
-    by true q = ((quiet-test z).0 q).nothing_to_send h below
+    by true q = quiet-none z h after (((quiet-test z).0 q).nothing_to_send h below)
     by false q =
         let m : nat_eq (round_pass w).value.moves 0 ≡ true = last-of (is_quiet z) (nat_eq (round_pass w).value.moves 0) e q in
         stopped (idle-pass w idle (grind (arith, nat_tests)))

@@ -4,7 +4,6 @@ use Rattle.std.specs.Prelude.{slice_get}
 use Rattle.std.specs.List.{AllByRecursion}
 use Rattle.std.proofs.lemmas.Option.{same_Some}
 use Rattle.net_defs.specs.Network.{Network}
-use Rattle.cable_history.specs.History.{first_history}
 use Rattle.cable_history.specs.Crossed.{life_channels}
 use Rattle.gm_defs.specs.declared.message.Message.{Message}
 use Rattle.gm_defs.specs.declared.frame.ConnectionKey.{ConnectionKey}
@@ -12,13 +11,12 @@ use Rattle.gm_defs.specs.Body.{message_limit, prio_limit}
 use Rattle.gm_defs.specs.Fragment.{Fragment as FragmentOf, fragments, whole_below}
 use Rattle.gm_defs.specs.Laws.{ComesNext}
 use Rattle.gm_defs.proofs.Numbers.{next-fragment}
-use Rattle.world_defs.specs.World.{WorldState, fabric_of, host_count, node_at}
+use Rattle.world_defs.specs.World.{WorldState, host_count, node_at}
 use Rattle.world_defs.specs.Traffic.{sender_on, sent_on, taken_on}
 use Rattle.world_defs.specs.Node.{prio_place, lane_of, prio_of, sending_lane, taking_lane}
 use Rattle.world_defs.proofs.Lanes.{peer_of-lane, prio_of-lane, lane_of-below}
 use Rattle.world_laws.specs.Shape.{IsWorld}
 use Rattle.act_defs.specs.Acts.{IsReached}
-use Rattle.act_defs.proofs.Cables.{reached-cables}
 use Rattle.message_laws.proofs.Worlds.{reached-ordered}
 use Rattle.message_laws.specs.Windows.{IsWindow}
 use Rattle.message_laws.proofs.Windows.{windows-hold}
@@ -27,7 +25,6 @@ use Rattle.settle_laws.proofs.Frames.{IsByRules}
 
 pub record Facts (n : Network) (key : ConnectionKey) (k : ℕ) (fragment : FragmentOf) (w : WorldState) : Type 0 where
   pub reached : IsReached n w
-  pub net : fabric_of w ≡ n
   pub host : key.src < host_count w
   pub peer : key.dst < host_count w
   pub low : k ≤ (sender_on w key).base
@@ -82,10 +79,6 @@ module _ (n : Network) (key : ConnectionKey) (k : ℕ) (fragment : FragmentOf) (
 
   pub lane-of : lane_of key.src fragment.message.prio ≡ taking_lane key
   lane-of = ap (λ p. prio_limit * key.src + p) prio-of
-
-  -- its cables are those of its fabric before any change
-  pub cables-of : w.links.cables ≡ first_history n
-  cables-of = reached-cables n w f.reached
 
   pub slots-of : length w.links.channels ≡ life_channels w.links.cables
   slots-of = world-of.links.slots

@@ -7,7 +7,7 @@ use Rattle.world_defs.specs.World.{WorldState, epoch_of}
 use Rattle.act_defs.specs.Acts.{IsReached}
 use Rattle.table_laws.proofs.Dependencies.{links-of_epoch}
 use Rattle.lawful_laws.specs.Probes.{IsProbe}
-use Rattle.lawful_laws.specs.Former.{IsFormer, IsExcused}
+use Rattle.lawful_laws.specs.Former.{is_of_parts, is_former, IsPacketOf, IsExcused}
 use Rattle.lawful_laws.proofs.ProbePackets.{gm-no_probe, gm-no_former}
 use Rattle.lawful_laws.proofs.Lawful.{unflipped-lawful}
 use Rattle.lawful_laws.proofs.Flowing.{lawful-drains}
@@ -22,7 +22,8 @@ plain-unexcused n w held is p (IsExcused.older low) =
     let born = p.born in
     let now : w.links.epoch ≡ epoch_of w = links-of_epoch n w is in
     omega (arith, low, born, now)
-plain-unexcused n w held is p (IsExcused.former x) = gm-no_former (epoch_of w) p.turns p.payload (subst (IsFormer (epoch_of w)) p.wire x)
+plain-unexcused n w held is p (IsExcused.former x) = gm-no_former (is_former (epoch_of w)) p.turns p.payload (subst (IsPacketOf (is_former (epoch_of w))) p.wire x)
+plain-unexcused n w held is p (IsExcused.plugged new x) = gm-no_former is_of_parts p.turns p.payload (subst (IsPacketOf is_of_parts) p.wire x)
 
 plain-lawful : (n : Network) (w : WorldState) → IsReached n w → IsPlain w.links → IsLawfulTraffic w
 plain-lawful n w is plain = record {

@@ -21,19 +21,19 @@ use Rattle.world_defs.specs.Lane.{LaneState, new_lane, lane_sent_one, lane_answe
 use Rattle.world_defs.specs.Node.{NodeState, peer_of, prio_of, prio_place, lane_of, sending_lane, taking_lane, sends_on, takes_from, lane_route, Outgoing, Probe, TablePart, Reply, PartAnswer, FrameAnswer, Fragment, lane_at, with_lane, port_at, new_node, packet_for, after_sending}
 use Rattle.world_defs.specs.Hearing.{port_fits}
 use Rattle.world_defs.specs.World.{WorldState, node_at}
-use Rattle.world_defs.specs.Traffic.{sender_on, sent_on, taken_on}
+use Rattle.world_defs.specs.Traffic.{is_broken, sender_on, sent_on, taken_on}
 use Rattle.world_defs.proofs.Lanes.{peer_of-lane, prio_of-lane}
 use Rattle.world_defs.specs.Step.{planned_strikes, sent_out}
 use Rattle.world_laws.proofs.Lists.{at-set}
 use Rattle.message_laws.proofs.Numbers.{due-number}
 use Rattle.settle_laws.proofs.Views.{InjectOf, unstruck-links}
-use Rattle.settle_laws.proofs.Leading.{LeadsTo, place-leads}
+use Rattle.settle_laws.proofs.Leading.{LeadsTo}
 use Rattle.settle_laws.proofs.Ways.{OnWay, keep-there, new-there, still-way}
 use Rattle.settle_laws.proofs.Staged.{IsOwed, IsDueOn, IsToPeer, to_send-peer, IsBare}
 use Rattle.world_defs.proofs.Strikes.{injection-nodes}
-use Rattle.settle_laws.proofs.Routes.{route-leads}
+use Rattle.settle_laws.proofs.Whole.{IsWhole, table-whole}
 use Rattle.settle_laws.proofs.Still.{Still}
-use Rattle.settle_laws.proofs.Facts.{Facts, cables-of, slots-of}
+use Rattle.settle_laws.proofs.Facts.{Facts, slots-of}
 use Rattle.settle_laws.proofs.Lively.{Lively, frame_payload, ack_payload}
 
 -- what sending leaves of a host
@@ -90,7 +90,7 @@ same-number x y e = grind (arith, nat_tests)
 other-number : (x y : ℕ) → nat_eq x y ≡ false → y ≢ x
 other-number x y e = grind (arith, nat_tests)
 
-module _ (n : Network) (key : ConnectionKey) (k : ℕ) (fragment : FragmentOf) (w v : WorldState) (f : Facts n key k fragment w) (h c : ℕ) (out : Outgoing) (chan : leaving w.links.cables (host_port h) ≡ Some c) (none : packet_in w.links c ≡ None) (nodes : v.nodes ≡ set w.nodes h (after_sending (node_at w h) out)) (links : v.links ≡ with_packet w.links c (Some (record { wire = packet_for h (w.injected + 1) out; marked = false; born = w.links.epoch }))) where
+module _ (n : Network) (key : ConnectionKey) (k : ℕ) (fragment : FragmentOf) (w v : WorldState) (f : Facts n key k fragment w) (h c : ℕ) (out : Outgoing) (chan : leaving w.links.cables (host_port h) ≡ Some c) (none : packet_in w.links c ≡ None) (nodes : v.nodes ≡ set w.nodes h (after_sending (node_at w h) out)) (links : v.links ≡ with_packet w.links c (Some (record { wire = packet_for h (w.injected + 1) out; marked = false; born = w.links.epoch }))) (whole : IsWhole key w) where
   kept : v.links.cables ≡ w.links.cables
   kept = ap (λ l. l.cables) links
 
@@ -110,10 +110,11 @@ module _ (n : Network) (key : ConnectionKey) (k : ℕ) (fragment : FragmentOf) (
       still-way payload to w v o kept (ap (λ l. packet_in l o.channel) links ∙ keep-there w.links c o.channel o.held (Some (record { wire = packet_for h (w.injected + 1) out; marked = false; born = w.links.epoch })) none o.there)
 
   -- the new packet
-  new-way : (payload : List ℕ) (to : ℕ) (walk : List ℤ) → packet_for h (w.injected + 1) out ≡ packet_of walk Gm payload → table_route (node_at w h).table to ≡ Some walk → OnWay payload to v
-  new-way payload to walk wire route =
-      let led = route-leads n w h to walk f.reached route in
-      let leads : LeadsTo w.links.cables payload to walk c = place-leads n w.links.cables h to c walk payload (cables-of n key k fragment w f) led.1 chan led.0 in
+  new-way : (payload : List ℕ) (to : ℕ) (walk : List ℤ) → packet_for h (w.injected + 1) out ≡ packet_of walk Gm payload → table_route (node_at w h).table to ≡ Some walk → is_broken w h to ≡ false → OnWay payload to v
+  new-way payload to walk wire route unbroken =
+      let led = table-whole n w h to walk f.reached route unbroken in
+      let same : led.cabled.channel ≡ c = same_Some led.cabled.channel c (sym led.cabled.out ∙ chan) in
+      let leads : LeadsTo w.links.cables payload to walk c = subst (LeadsTo w.links.cables payload to walk) same (led.leads payload) in
       let low = (leaving_has_its_end w.links.cables (host_port h) c chan).there in
       let slots = slots-of n key k fragment w f in
       let new : Held = record { wire = packet_for h (w.injected + 1) out; marked = false; born = w.links.epoch } in
@@ -149,7 +150,7 @@ module _ (n : Network) (key : ConnectionKey) (k : ℕ) (fragment : FragmentOf) (
       let answers : takes_from h lane ≡ connection key.src key.dst (prio_place key.prio) = λ i. connection (peer i) (at i) (prio i) in
       let wire : packet_for h (w.injected + 1) out ≡ packet_of by Gm (ack_payload key next) =
       ap (packet_for h (w.injected + 1)) e ∙ (answer-wire h (w.injected + 1) lane next by ∙ ap (λ x. packet_of by Gm (ack_bytes (ack_on x next))) answers) in
-      Lively.ack next (omega (arith, count, t)) (omega (arith, count, taken-same)) (new-way (ack_payload key next) key.src by wire (route-to lane key.src key.prio by to is.route))
+      Lively.ack next (omega (arith, count, t)) (omega (arith, count, taken-same)) (new-way (ack_payload key next) key.src by wire (route-to lane key.src key.prio by to is.route) (subst (λ x. is_broken w x key.src ≡ false) (sym at) whole.back))
 
   answer-owed : (lane next : ℕ) (by : List ℤ) → out ≡ FrameAnswer lane next by → IsOwed (node_at w h) lane next by → k < taken_on w key → (lane_at (node_at w key.dst) (taking_lane key)).owes ≡ true → Lively key k fragment v
   answer-owed lane next by e is t o = cases (nat_eq h key.dst) (nat_eq lane (taking_lane key)) refl refl
@@ -187,7 +188,7 @@ module _ (n : Network) (key : ConnectionKey) (k : ℕ) (fragment : FragmentOf) (
       let frame : frame_of key (sent_on w key) k ≡ Some (head, part) = subst (λ x. frame_of key (sent_on w key) x ≡ Some (head, part)) number (sym (ap (λ x. frame_of x (sent_on w key) d.number) mine) ∙ d.frame) in
       let same : (head, part) ≡ (head_of key k fragment, fragment.part) = same_Some (head, part) (head_of key k fragment, fragment.part) (sym frame ∙ ap (option_map (λ g. (head_of key k g, g.part))) f.there) in
       let wire : packet_for h (w.injected + 1) out ≡ packet_of by Gm (frame_payload key k fragment) = ap (packet_for h (w.injected + 1)) e ∙ (fragment-wire h (w.injected + 1) lane head part by ∙ ap (λ x. packet_of by Gm (frame_bytes x.0 x.1)) same) in
-      Lively.frame (new-way (frame_payload key k fragment) key.dst by wire (route-to lane key.dst key.prio by to is.route))
+      Lively.frame (new-way (frame_payload key k fragment) key.dst by wire (route-to lane key.dst key.prio by to is.route) (subst (λ x. is_broken w x key.dst ≡ false) (sym at) whole.there))
 
   fragment-again : (lane : ℕ) (head : FrameHead) (part : List ℕ) (by : List ℤ) → out ≡ Fragment lane head part by → IsDueOn h (node_at w h) lane head part by → (sender_on w key).cursor ≡ k → Lively key k fragment v
   fragment-again lane head part by e is g = cases (nat_eq h key.src) (nat_eq lane (sending_lane key)) refl refl
@@ -230,10 +231,10 @@ module _ (n : Network) (key : ConnectionKey) (k : ℕ) (fragment : FragmentOf) (
   sent-lively is (Lively.ack next more most o) = Lively.ack next more (omega (arith, most, taken-same)) (other-way (ack_payload key next) key.src o)
 
 -- an injection that no planned fault strikes
-pub inject-lively : (n : Network) (key : ConnectionKey) (k : ℕ) (fragment : FragmentOf) (w : WorldState) (h : ℕ) (r : Effect × WorldState) → Facts n key k fragment w → IsBare w → InjectOf w h r → r.1.struck ≤ w.struck → Lively key k fragment w → Lively key k fragment r.1
-inject-lively n key k fragment w h r f bare (InjectOf.idle e s) t l = subst (Lively key k fragment) (sym s) l
-inject-lively n key k fragment w h r f bare (InjectOf.sends c out chan e none x s) t l =
+pub inject-lively : (n : Network) (key : ConnectionKey) (k : ℕ) (fragment : FragmentOf) (w : WorldState) (h : ℕ) (r : Effect × WorldState) → Facts n key k fragment w → IsBare w → InjectOf w h r → r.1.struck ≤ w.struck → IsWhole key w → Lively key k fragment w → Lively key k fragment r.1
+inject-lively n key k fragment w h r f bare (InjectOf.idle e s) t whole l = subst (Lively key k fragment) (sym s) l
+inject-lively n key k fragment w h r f bare (InjectOf.sends c out chan e none allowed x s) t whole l =
     let v : WorldState = planned_strikes (sent_out w h c out) c in
     let few : v.struck ≤ w.struck = subst (λ z. z.struck ≤ w.struck) s t in
     subst (Lively key k fragment) (sym s)
-    (sent-lively n key k fragment w v f h c out chan none (injection-nodes w h c out) (unstruck-links w h c out none few) (to_send-peer h (node_at w h) (bare.each h) out e) l)
+    (sent-lively n key k fragment w v f h c out chan none (injection-nodes w h c out) (unstruck-links w h c out none few) whole (to_send-peer h (node_at w h) (bare.each h) out e) l)

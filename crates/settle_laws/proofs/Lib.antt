@@ -22,4 +22,5 @@ pub mod Still
 pub mod Views
 pub mod Waiting
 pub mod Ways
+pub mod Whole
 pub mod Working

@@ -1,5 +1,5 @@
 -- One pass in which no planned fault strikes: what may be on its way in it comes before its end.
-use Rattle.std.proofs.Common.{◌≡◌, ◌≤◌, ℕ, true, List, [], ◌∷◌, map, Some, None, sym, ap, ◌∙◌, subst, arith}
+use Rattle.std.proofs.Common.{◌≡◌, ◌≤◌, ℕ, true, List, [], ◌∷◌, map, Some, None, refl, sym, ap, ◌∙◌, subst, arith}
 use Rattle.net_defs.specs.Network.{Network}
 use Rattle.link_defs.specs.Links.{is_idle}
 use Rattle.gm_defs.specs.Fragment.{Fragment as FragmentOf}
@@ -13,7 +13,7 @@ use Rattle.world_defs.specs.Step.{planned_strikes, sent_out, step, steps, after_
 use Rattle.world_defs.specs.Drain.{channels_of, resets_of}
 use Rattle.world_defs.specs.Settle.{serials}
 use Rattle.world_laws.specs.Reached.{IsOfDrain, IsOfSettle}
-use Rattle.world_laws.proofs.Shapes.{step-kept}
+use Rattle.world_defs.proofs.Kept.{step-cables}
 use Rattle.world_laws.proofs.Rounds.{Going}
 use Rattle.world_laws.proofs.Clearing.{clear-idle}
 use Rattle.world_defs.proofs.LogRows.{all-map}
@@ -28,7 +28,8 @@ use Rattle.settle_laws.proofs.CalmWorlds.{WorldCalm, IsCalm, event-calm, along-c
 use Rattle.settle_laws.proofs.Plain.{IsPlain, idle-empty, idle-plain, inject-plain}
 use Rattle.settle_laws.proofs.Still.{Still, calm-still}
 use Rattle.settle_laws.proofs.Facts.{Facts, IsReadable}
-use Rattle.settle_laws.proofs.Kept.{along-going, event-going, along-facts}
+use Rattle.settle_laws.proofs.Kept.{along-going, event-going, along-facts, Unstruck, event-unstruck, along-unstruck}
+use Rattle.settle_laws.proofs.Whole.{IsWhole, whole-same}
 use Rattle.settle_laws.proofs.Lively.{Lively, advance-lively}
 use Rattle.settle_laws.proofs.Injecting.{inject-lively}
 
@@ -38,11 +39,16 @@ PlainDrainsIdle = (n : Network) (w : WorldState) → IsReached n w → IsPlain w
 
 inject-bare : (w : WorldState) (h : ℕ) (r : Effect × WorldState) → InjectOf w h r → IsBare w → IsBare r.1
 inject-bare w h r (InjectOf.idle e s) is = subst IsBare (sym s) is
-inject-bare w h r (InjectOf.sends c out chan e none x s) is = subst IsBare (sym s) (sending-bare w (planned_strikes (sent_out w h c out) c) h out (injection-nodes w h c out) is)
+inject-bare w h r (InjectOf.sends c out chan e none allowed x s) is = subst IsBare (sym s) (sending-bare w (planned_strikes (sent_out w h c out) c) h out (injection-nodes w h c out) is)
+
+-- unbroken routes stay so where no planned fault strikes
+pub unstruck-whole : (key : ConnectionKey) (w v : WorldState) → Unstruck w v → v.struck ≤ w.struck → IsWhole key w → IsWhole key v
+unstruck-whole key w v u few is = whole-same key w v (u.cables few) u.adopted is
 
 -- while hosts inject
 record Sending (n : Network) (key : ConnectionKey) (k : ℕ) (fragment : FragmentOf) (w : WorldState) : Type 0 where
   facts : Facts n key k fragment w
+  whole : IsWhole key w
   bare : IsBare w
   plain : IsPlain w.links
   lively : Lively key k fragment w
@@ -56,9 +62,10 @@ module _ (flows : PlainDrainsIdle) (n : Network) (key : ConnectionKey) (k : ℕ)
   one-sending : (w : WorldState) (h : ℕ) → (step w (Inject h)).1.struck ≤ w.struck → Sending n key k fragment w → Sending n key k fragment (step w (Inject h)).1
   one-sending w h few s = record {
     facts = (along-facts n key k fragment).event w (Inject h) tt s.facts;
+    whole = unstruck-whole key w (step w (Inject h)).1 (event-unstruck w (Inject h) tt) few s.whole;
     bare = inject-bare w h (step w (Inject h)) (inject-is w h) s.bare;
     plain = inject-plain w h (step w (Inject h)) s.bare (inject-is w h) few s.plain;
-    lively = inject-lively n key k fragment w h (step w (Inject h)) s.facts s.bare (inject-is w h) few s.lively;
+    lively = inject-lively n key k fragment w h (step w (Inject h)) s.facts s.bare (inject-is w h) few s.whole s.lively;
   }
 
   all-sending : (w : WorldState) (hs : List ℕ) → (steps w (map Inject hs)).1.struck ≤ w.struck → Sending n key k fragment w → Sending n key k fragment (steps w (map Inject hs)).1
@@ -72,7 +79,7 @@ module _ (flows : PlainDrainsIdle) (n : Network) (key : ConnectionKey) (k : ℕ)
   advance-draining : (w : WorldState) (e : Event) → IsOfDrain e → Draining n key k fragment w → Draining n key k fragment (step w e).1
   advance-draining w (Advance c) q d = record {
     facts = (along-facts n key k fragment).event w (Advance c) tt d.facts;
-    lively = advance-lively n key k fragment w (step w (Advance c)).1 d.facts readable c (advance-is w c) (event-calm w (Advance c) tt) (step-kept w (Advance c)).cables d.lively;
+    lively = advance-lively n key k fragment w (step w (Advance c)).1 d.facts readable c (advance-is w c) (event-calm w (Advance c) tt) (step-cables w (Advance c) refl) d.lively;
   }
   advance-draining w _ q d = absurd q
 
@@ -106,19 +113,22 @@ module _ (flows : PlainDrainsIdle) (n : Network) (key : ConnectionKey) (k : ℕ)
   pub pass-facts : (w : WorldState) → Facts n key k fragment w → Facts n key k fragment (round_pass w).world
   pass-facts w f = round_pass-along (λ w v. Facts n key k fragment w → Facts n key k fragment v) IsOfSettle (along-facts n key k fragment) settles-of w f
 
-  pub pass-still : (w : WorldState) → is_idle w.links ≡ true → (round_pass w).world.struck ≤ w.struck → Facts n key k fragment w → Still key k fragment w → Still key k fragment (round_pass w).world
+  pub pass-still : (w : WorldState) → is_idle w.links ≡ true → (round_pass w).world.struck ≤ w.struck → Facts n key k fragment w → IsWhole key w → Still key k fragment w → Still key k fragment (round_pass w).world
   unfolding round_pass
-  pass-still w idle few f s =
+  pass-still w idle few f whole s =
       let t : WorldState = after_all w (map GiveUp (addresses w)) in
       let u : WorldState = (steps t (map Inject (addresses w))).1 in
       let v : WorldState = (clear u).world in
       let last : WorldState = (replays (serials v) v).world in
       let calm : WorldCalm w t = after_all-along WorldCalm IsCalm along-calm w (map GiveUp (addresses w)) (all-map IsCalm GiveUp (λ h. tt) (addresses w)) in
       let first = (after_all-along Going IsOfSettle along-going w (map GiveUp (addresses w)) (all-map IsOfSettle GiveUp (λ h. tt) (addresses w))).rises in
+      let sends = (steps-along Going IsOfSettle along-going t (map Inject (addresses w)) (all-map IsOfSettle Inject (λ j. tt) (addresses w))).rises in
       let mid = (clear-along Going IsOfSettle along-going settles-of.clears u).rises in
       let end = (replays-going (serials v) v).rises in
+      let up : Unstruck w t = after_all-along Unstruck IsOfSettle along-unstruck w (map GiveUp (addresses w)) (all-map IsOfSettle GiveUp (λ h. tt) (addresses w)) in
       let start : Sending n key k fragment t = record {
         facts = after_all-along (λ w v. Facts n key k fragment w → Facts n key k fragment v) IsOfSettle (along-facts n key k fragment) w (map GiveUp (addresses w)) (all-map IsOfSettle GiveUp (λ h. tt) (addresses w)) f;
+        whole = unstruck-whole key w t up (omega (arith, few, sends, mid, end)) whole;
         bare = given_up-bare w;
         plain = idle-plain t.links (ap is_idle (given_up-links w (addresses w)) ∙ idle);
         lively = Lively.still (calm-still key k fragment w t calm f.low s);

@@ -55,7 +55,7 @@ sent-plain host h number w (PartAnswer r) is = absurd is
 
 pub inject-plain : (w : WorldState) (h : ℕ) (r : Effect × WorldState) → IsBare w → InjectOf w h r → r.1.struck ≤ w.struck → IsPlain w.links → IsPlain r.1.links
 inject-plain w h r bare (InjectOf.idle e s) t is = subst (λ x. IsPlain x.links) (sym s) is
-inject-plain w h r bare (InjectOf.sends c out chan e none x s) t is =
+inject-plain w h r bare (InjectOf.sends c out chan e none allowed x s) t is =
     let v : WorldState = planned_strikes (sent_out w h c out) c in
     let few : v.struck ≤ w.struck = subst (λ z. z.struck ≤ w.struck) s t in
     let new : Held = record { wire = packet_for h (w.injected + 1) out; marked = false; born = w.links.epoch } in

@@ -7,16 +7,18 @@ use Rattle.std.proofs.lemmas.Option.{same_Some}
 use Rattle.net_defs.specs.declared.place.Place.TheVariants.{Host as AtHostPlace}
 use Rattle.net_defs.specs.declared.route.Route.{Route}
 use Rattle.net_defs.specs.Network.{Network}
+use Rattle.cable_history.specs.History.{fabric_at}
 use Rattle.net_defs.specs.Turn.{is_turn, IsTurn}
 use Rattle.net_defs.specs.Route.{place}
 use Rattle.mapping_defs.specs.Mapping.{RouteEntry}
 use Rattle.gm_defs.proofs.Choices.{both}
-use Rattle.world_defs.specs.Table.{Adoption, ActiveTable, TableState, entries_from, table_route}
+use Rattle.world_defs.specs.Table.{Adoption, ActiveTable, TableState, at_in, entries_from, table_route}
 use Rattle.world_defs.specs.Traffic.{routes_in, adopted_routes}
 use Rattle.world_defs.specs.World.{WorldState, node_at}
 use Rattle.world_defs.specs.declared.event.Event.{Event}
 use Rattle.world_defs.specs.Step.{step}
 use Rattle.act_defs.specs.Acts.{Happens, IsReached}
+use Rattle.act_defs.proofs.Cables.{reached-cables}
 use Rattle.table_laws.specs.Set.{IsActive}
 use Rattle.table_laws.proofs.Sets.{RouteFits, routes-fit, entries-all}
 use Rattle.table_laws.proofs.Steps.{hosts-active}
@@ -88,16 +90,24 @@ both-all : (n : Network) (routes : List Route) → AllByRecursion (λ r. place n
 both-all n [] a b = tt
 both-all n (r ∷ rs) a b = (record { there = a.0; turns = b.0.turns }, both-all n rs a.1 b.1)
 
-set-leads : (n : Network) (w : WorldState) (h dest : ℕ) (walk : List ℤ) → IsReached n w → is_some (node_at w h).table.active ≡ true → route_by (adopted_routes w) h dest ≡ Some walk → Leads n h dest walk
+-- the fabric as it stood at the adoption
+abbrev accepted_in : WorldState → Network
+accepted_in w = fabric_at w.links.cables w.links.cables.accepted
+
+set-leads : (n : Network) (w : WorldState) (h dest : ℕ) (walk : List ℤ) → IsReached n w → is_some (node_at w h).table.active ≡ true → route_by (adopted_routes w) h dest ≡ Some walk → Leads (accepted_in w) h dest walk
 set-leads n w h dest walk is active e =
     let x = has-set n w h is active in
-    let lead = (adopted-adoptable n w x.0 is x.1).1.lead in
-    let all : AllByRecursion (λ r. Leads n r.from r.to r.walk) x.0.routes = both-all n x.0.routes lead (routes-fit n x.0.routes is.fabric lead) in
-    let entries : AllByRecursion (λ e. Leads n h e.to e.walk) (entries_from x.0.routes h) =
-    entries-all (λ r. Leads n r.from r.to r.walk) (λ e. Leads n h e.to e.walk) h x.0.routes (λ r t l. let from : r.from ≡ h = grind (arith, nat_tests) in subst (λ k. Leads n k r.to r.walk) from l) all in
-    found-leads n h dest (entries_from x.0.routes h) walk entries (sym (ap (λ o. route_by (routes_in o) h dest) x.1) ∙ e)
+    let k = reached-cables n w is in
+    let m : Network = accepted_in w in
+    let when : x.0.at ≡ w.links.cables.accepted = sym (ap at_in x.1) ∙ sym k.accepted in
+    let then_lead = (adopted-adoptable n w x.0 is x.1).1.lead in
+    let lead : AllByRecursion (λ r. place m r.from r.walk ≡ AtHostPlace r.to) x.0.routes = subst (λ j. AllByRecursion (λ r. place (fabric_at w.links.cables j) r.from r.walk ≡ AtHostPlace r.to) x.0.routes) when then_lead in
+    let all : AllByRecursion (λ r. Leads m r.from r.to r.walk) x.0.routes = both-all m x.0.routes lead (routes-fit m x.0.routes (k.history.fabrics w.links.cables.accepted) lead) in
+    let entries : AllByRecursion (λ e. Leads m h e.to e.walk) (entries_from x.0.routes h) =
+    entries-all (λ r. Leads m r.from r.to r.walk) (λ e. Leads m h e.to e.walk) h x.0.routes (λ r t l. let from : r.from ≡ h = grind (arith, nat_tests) in subst (λ k. Leads m k r.to r.walk) from l) all in
+    found-leads m h dest (entries_from x.0.routes h) walk entries (sym (ap (λ o. route_by (routes_in o) h dest) x.1) ∙ e)
 
-pub route-leads : (n : Network) (w : WorldState) (h dest : ℕ) (walk : List ℤ) → IsReached n w → table_route (node_at w h).table dest ≡ Some walk → (place n h walk ≡ AtHostPlace dest) × AllByRecursion IsTurn walk
+pub route-leads : (n : Network) (w : WorldState) (h dest : ℕ) (walk : List ℤ) → IsReached n w → table_route (node_at w h).table dest ≡ Some walk → (place (fabric_at w.links.cables w.links.cables.accepted) h walk ≡ AtHostPlace dest) × AllByRecursion IsTurn walk
 route-leads n w h dest walk is e =
     let active = has-active (node_at w h).table dest (ap is_some e) in
     let l = set-leads n w h dest walk is active (sym (table-route n w h dest is active) ∙ e) in

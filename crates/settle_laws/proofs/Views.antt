@@ -11,7 +11,7 @@ use Rattle.world_defs.specs.declared.effect.Effect.{Effect}
 use Rattle.world_defs.specs.declared.effect.Effect.TheVariants.{Idle, Injected}
 use Rattle.world_defs.specs.Node.{Outgoing, to_send, packet_for}
 use Rattle.world_defs.specs.Hearing.{hear}
-use Rattle.world_defs.specs.World.{WorldState, host_count, node_at}
+use Rattle.world_defs.specs.World.{WorldState, host_count, node_at, keeps_out}
 use Rattle.link_defs.specs.Advance.{course}
 use Rattle.world_defs.specs.Step.{planned_strikes, sent_out, step}
 use Rattle.world_defs.proofs.Views.{LinksChange, Change, view}
@@ -43,13 +43,13 @@ advance-is w c = advance-of (view w (Advance c))
 -- an injection is idle, or a packet enters an empty channel and a planned fault may strike
 pub data InjectOf (w : WorldState) (h : ℕ) (r : Effect × WorldState) : Type 0 where
   idle : r.0 ≡ Idle → r.1 ≡ w → InjectOf w h r
-  sends : (c : ℕ) (out : Outgoing) → leaving w.links.cables (host_port h) ≡ Some c → to_send h (node_at w h) ≡ Some out → packet_in w.links c ≡ None → r.0 ≡ Injected (w.injected + 1) → r.1 ≡ planned_strikes (sent_out w h c out) c → InjectOf w h r
+  sends : (c : ℕ) (out : Outgoing) → leaving w.links.cables (host_port h) ≡ Some c → to_send h (node_at w h) ≡ Some out → packet_in w.links c ≡ None → keeps_out w c out ≡ false → r.0 ≡ Injected (w.injected + 1) → r.1 ≡ planned_strikes (sent_out w h c out) c → InjectOf w h r
 
 inject-of : {w : WorldState} {h : ℕ} {r : Effect × WorldState} → Change w (Inject h) r → InjectOf w h r
 inject-of Change.idle = InjectOf.idle refl refl
 inject-of (Change.links k) = elim k [ ]
 inject-of (Change.host k) = elim k [ ]
-inject-of (Change.injects c out d e f g) = InjectOf.sends c out d e f refl refl
+inject-of (Change.injects c out d e f g o) = InjectOf.sends c out d e f o refl refl
 inject-of (Change.calls k) = elim k [ ]
 
 pub inject-is : (w : WorldState) (h : ℕ) → InjectOf w h (step w (Inject h))

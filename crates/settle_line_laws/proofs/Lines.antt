@@ -2,26 +2,23 @@
 use Rattle.std.proofs.Common.{◌≡◌, ◌<◌, ℕ, List, [], ◌∷◌, min, Some, sym, ◌∙◌, ap, subst, arith}
 use Rattle.std.proofs.lemmas.Option.{same_Some}
 use Rattle.net_defs.specs.Network.{Network}
-use Rattle.net_defs.proofs.Distinct.{all-weaker}
-use Rattle.world_defs.specs.World.{WorldState, fabric_of, last_count}
+use Rattle.cable_history.specs.History.{fabric_at}
+use Rattle.world_defs.specs.World.{WorldState, last_count}
 use Rattle.world_defs.specs.Settle.{unacknowledged_in}
 use Rattle.world_defs.specs.Settled.{IsSettled}
 use Rattle.world_laws.specs.Shape.{HasSenders}
 use Rattle.world_laws.proofs.Rounds.{settle-bounded}
 use Rattle.act_defs.specs.Acts.{IsReached}
+use Rattle.act_defs.proofs.Cables.{reached-cables}
 use Rattle.message_laws.specs.Got.{IsAllGot}
 use Rattle.message_laws.proofs.Windows.{reached-windowed}
 use Rattle.message_laws.proofs.Reaching.{settle-got}
-use Rattle.run_defs.specs.declared.command.Command.{Command}
-use Rattle.run_defs.specs.declared.command.Command.TheVariants.{Map, Circuit, Plan, Settle}
+use Rattle.run_defs.specs.declared.command.Command.TheVariants.{Settle}
 use Rattle.run_defs.specs.declared.line.Line.TheVariants.{Settle as SettleLine}
 use Rattle.run_defs.specs.Output.{Piece, OneLine}
 use Rattle.run_defs.specs.Session.{SessionState}
 use Rattle.run_defs.specs.Outcome.{Outcome, settled, outcome}
 use Rattle.run_defs.specs.Run.Does.{determined}
-use Rattle.run_defs.specs.Headline.{IsCommandOf}
-use Rattle.mapping_laws.proofs.Sessions.{run_keeps_world}
-use Rattle.run_laws.specs.Acts.{IsActOf}
 use Rattle.run_laws.proofs.Reaching.{run_is_reached}
 use Rattle.world_defs.specs.Log.{Log}
 use Rattle.world_defs.specs.Logs as log
@@ -31,18 +28,11 @@ use Rattle.settle_laws.specs.Premises.{CanSettle}
 use Rattle.settle_laws.proofs.Flowing.{settle-ends_settled}
 use Rattle.settle_line_laws.specs.Lines.{RunCanSettle, IsSettledLine, SettledLineIsTrue}
 
--- such a command is one over the fabric
-command-of : (n : Network) (c : Command) → IsActOf n c → IsCommandOf n c
-command-of n (Map host depth tries) is = is
-command-of n (Circuit host depth) is = is
-command-of n (Plan ahead kind) is = is.1
-command-of n c is = tt
-
 pub run-can_settle : RunCanSettle
 run-can_settle n commands out s f all r =
-    let net : fabric_of s.world ≡ n = (run_keeps_world n commands out s f (all-weaker (IsActOf n) (IsCommandOf n) commands (command-of n) all) r).fabric in
     let reached = run_is_reached n commands out s f all r in
-    (net, record { reached = subst (λ m. IsReached m s.world) (sym net) reached })
+    let first : fabric_at s.world.links.cables 0 ≡ n = (reached-cables n s.world reached).first in
+    (first, record { reached = subst (λ m. IsReached m s.world) (sym first) reached })
 
 -- what a settle prints
 record Prints (s next : SessionState) (rounds resets unacked : ℕ) : Type 0 where
@@ -78,7 +68,8 @@ none-printed k most e = omega (arith, e)
 line-so : (s next : SessionState) (rounds resets unacked : ℕ) → CanSettle s.world → Prints s next rounds resets unacked → IsSettledLine s next rounds resets unacked
 line-so s next rounds resets unacked can p =
     let w : WorldState = s.world in
-    let senders = reached-senders (fabric_of w) w can.reached in
+    let first : Network = fabric_at w.links.cables 0 in
+    let senders = reached-senders first w can.reached in
     let bound = settle-bounded w senders in
     let least = bound.0 in
     let most = bound.1 in
@@ -88,10 +79,10 @@ line-so s next rounds resets unacked can p =
       after = sym after;
       at_least = omega (arith, least, count);
       at_most = omega (arith, most, count);
-      lawful = λ clears. sym p.reset_count ∙ none-printed (settle w).value.resets last_count (settle-flows (fabric_of w) w can.reached clears);
+      lawful = λ clears. sym p.reset_count ∙ none-printed (settle w).value.resets last_count (settle-flows first w can.reached clears);
       left = sym p.left ∙ ap unacknowledged_in after;
       settled = λ left. subst IsSettled after (settle-ends_settled w can (subst (λ (v : WorldState). v.injected < last_count) (sym after) left));
-      got = λ none. subst IsAllGot after (settle-got (fabric_of w) w can.reached (p.left ∙ none));
+      got = λ none. subst IsAllGot after (settle-got first w can.reached (p.left ∙ none));
     }
 
 pub line-true : SettledLineIsTrue

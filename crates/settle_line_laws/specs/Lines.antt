@@ -2,7 +2,8 @@
 use Rattle.std.specs.Prelude.{◌≡◌, ℕ, ◌+◌, ◌<◌, ◌≤◌, List, ◌∷◌, length}
 use Rattle.std.specs.List.{AllByRecursion}
 use Rattle.net_defs.specs.Network.{Network, IsFabric}
-use Rattle.world_defs.specs.World.{fabric_of, last_count}
+use Rattle.cable_history.specs.History.{fabric_at}
+use Rattle.world_defs.specs.World.{last_count}
 use Rattle.world_defs.specs.Settle.{unacknowledged_in}
 use Rattle.world_defs.specs.Settled.{IsSettled}
 use Rattle.world_defs.specs.Logs as log
@@ -17,12 +18,13 @@ use Rattle.lawful_laws.specs.Resets.{ClearsBeginLawful}
 use Rattle.message_laws.specs.Got.{IsAllGot}
 use Rattle.settle_laws.specs.Premises.{CanSettle}
 
--- after every run a settle can be made over the run's fabric: acts that may happen lead there
+-- after every run a settle can be made over the run's fabric, which the cables made at first: acts that may happen lead
+-- there
 abbrev pub RunCanSettle : Type 0
 RunCanSettle =
     (n : Network) (commands : List Command) (out : List Piece) (s : SessionState) → IsFabric n
     → AllByRecursion (IsActOf n) commands
-    → IsRun n commands out s → (fabric_of s.world ≡ n) × CanSettle s.world
+    → IsRun n commands out s → (fabric_at s.world.links.cables 0 ≡ n) × CanSettle s.world
 
 -- What the line `settle rounds R resets N unacked U` says: there were R rounds, at least one and at most one more
 -- than the unacknowledged fragments and planned faults before; N is 0 unless the traffic wasn't lawful as some clear

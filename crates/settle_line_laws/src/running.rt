@@ -2,8 +2,7 @@
 
 ghost use Rattle.settle_line_laws.specs.Lines.{RunCanSettle, SettledLineIsTrue};
 
-/// A settle can be made after every run, since the routes that a run adopts are those of a map, in which each has
-/// one back.
+/// A settle can be made after every run, since acts that may happen lead to its world.
 pub fn settling_runs()
     ensures { RunCanSettle }
 {}

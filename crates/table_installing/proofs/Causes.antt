@@ -1,11 +1,13 @@
 -- What an installation shows of the hosts that it doesn't count.
-use Rattle.std.proofs.Common.{◌≡◌, ◌≢◌, ◌<◌, ◌≤◌, ℕ, true, true≢false, ◌||◌, nat_eq, List, Option, Some, None, sym, ap, ◌∙◌, subst, arith}
+use Rattle.std.proofs.Common.{◌≡◌, ◌≢◌, ◌<◌, ◌≤◌, ℕ, Bool, true, false, true≢false, ◌||◌, nat_eq, List, Option, Some, None, refl, sym, ap, ◌∙◌, subst, arith, if◌then◌else◌}
 use Rattle.std.specs.Prelude.{IfSome, IsSome}
 use Rattle.std.specs.List.{AllByRecursion, list_any}
 use Rattle.std.proofs.lemmas.Bool.Decides.{nat_tests}
-use Rattle.link_defs.specs.Links.{is_idle}
+use Rattle.cable_history.specs.History.{fabric_at}
+use Rattle.link_defs.specs.Links.{LinkState, is_idle}
+use Rattle.link_defs.specs.Fault.{accept}
 use Rattle.world_defs.specs.Table.{Adoption}
-use Rattle.world_defs.specs.World.{WorldState, fabric_of, last_count}
+use Rattle.world_defs.specs.World.{WorldState, last_count, keeps_epoch}
 use Rattle.world_defs.proofs.LogViews.{installed}
 use Rattle.act_defs.specs.Acts.{IsReached}
 use Rattle.install_laws.specs.Premises.{IsJoined, CanInstall}
@@ -13,7 +15,7 @@ use Rattle.install_laws.specs.Counts.{TellsCause}
 use Rattle.install_laws.proofs.Counting.{tells-cause}
 use Rattle.install_laws.proofs.Installing.{installing-idle}
 use Rattle.adopted_routes.specs.Adopting.{is_among, IsSetOfHosts}
-use Rattle.table_installing.specs.Installing.{IsUnrevoked}
+use Rattle.table_installing.specs.Installing.{IsUnrevoked, IsUnchanged, AdoptedIsUnchanged}
 use Rattle.table_installing.proofs.InstallHosts.{members}
 
 told-cause : (w u : WorldState) (hosts : List ℕ) (tries acked : ℕ) (a : Adoption) → CanInstall a hosts w → 1 ≤ tries → installed a hosts tries w ≡ (acked, u)
@@ -22,7 +24,10 @@ told-cause w u hosts tries acked a can some told left =
     let first : (installed a hosts tries w).0 ≡ acked = ap (λ r. r.0) told in
     let last : (installed a hosts tries w).1 ≡ u = ap (λ r. r.1) told in
     let cause = tells-cause a hosts tries w can (omega (arith, some)) (subst (λ (v : WorldState). v.injected < last_count) (sym last) left) in
-    record { missed = cause.missed; unharmed = λ same. sym first ∙ cause.unharmed (ap (λ (v : WorldState). v.harmed) last ∙ same) }
+    record {
+      missed = cause.missed;
+      unharmed = λ same stays. sym first ∙ cause.unharmed (ap (λ (v : WorldState). v.harmed) last ∙ same) (ap (λ (v : WorldState). v.links.cables.changes) last ∙ stays);
+    }
 
 -- the hosts that an adopted set names are joined to its adopter
 joined : (n : ℕ) (a : Adoption) (hosts : List ℕ) → IsSetOfHosts n a → ((h : ℕ) → list_any (nat_eq h) hosts ≡ is_among a.mapper a.routes h)
@@ -33,21 +38,29 @@ joined n a hosts s named =
     members (λ h. h ≢ a.mapper → IsJoined a h) hosts
     (λ h e other. record { there = s.whole a.mapper h first (sym (named h) ∙ e) (λ f. other (sym f)); back = s.whole h a.mapper (sym (named h) ∙ e) first other })
 
-can_install : (n : ℕ) (w : WorldState) (hosts : List ℕ) (a : Adoption) → w.adopted ≡ Some a → IsReached (fabric_of w) w → IsSetOfHosts n a → is_idle w.links ≡ true
-    → IsUnrevoked w a → ((h : ℕ) → list_any (nat_eq h) hosts ≡ is_among a.mapper a.routes h) → CanInstall a hosts w
-can_install n w hosts a is reached set idle unrevoked named =
-    record { reached = reached; idle = idle; adopted = is; unrevoked = unrevoked; set = record { in_order = set.in_order; few_turns = set.short; joined = joined n a hosts set named } }
+can_install : (n : ℕ) (w : WorldState) (hosts : List ℕ) (a : Adoption) → w.adopted ≡ Some a → IsReached (fabric_at w.links.cables 0) w → IsSetOfHosts n a → is_idle w.links ≡ true
+    → IsUnrevoked w a → IsUnchanged w a → ((h : ℕ) → list_any (nat_eq h) hosts ≡ is_among a.mapper a.routes h) → CanInstall a hosts w
+can_install n w hosts a is reached set idle unrevoked unchanged named =
+    record { reached = reached; idle = idle; adopted = is; unchanged = unchanged; unrevoked = unrevoked; set = record { in_order = set.in_order; few_turns = set.short; joined = joined n a hosts set named } }
 
 -- it leaves the links idle
-pub idle-behind : (n : ℕ) (w u : WorldState) (hosts : List ℕ) (tries acked : ℕ) (o : Option Adoption) → w.adopted ≡ o → IsReached (fabric_of w) w → IfSome o (IsSetOfHosts n) → is_idle w.links ≡ true → IsSome o → IfSome o (IsUnrevoked w)
-    → IfSome o (λ a. (h : ℕ) → list_any (nat_eq h) hosts ≡ is_among a.mapper a.routes h) → IfSome o (λ a. installed a hosts tries w ≡ (acked, u)) → is_idle u.links ≡ true
-idle-behind n w u hosts tries acked None is reached set idle some unrevoked named told = absurd (true≢false (sym some))
-idle-behind n w u hosts tries acked (Some a) is reached set idle some unrevoked named told =
-    ap (λ r. is_idle r.1.links) (sym told) ∙ installing-idle a hosts tries w (can_install n w hosts a is reached set idle unrevoked named)
+pub idle-behind : (n : ℕ) (w u : WorldState) (hosts : List ℕ) (tries acked : ℕ) (o : Option Adoption) → w.adopted ≡ o → IsReached (fabric_at w.links.cables 0) w → IfSome o (IsSetOfHosts n) → is_idle w.links ≡ true → IsSome o → IfSome o (IsUnrevoked w)
+    → IfSome o (IsUnchanged w) → IfSome o (λ a. (h : ℕ) → list_any (nat_eq h) hosts ≡ is_among a.mapper a.routes h) → IfSome o (λ a. installed a hosts tries w ≡ (acked, u)) → is_idle u.links ≡ true
+idle-behind n w u hosts tries acked None is reached set idle some unrevoked unchanged named told = absurd (true≢false (sym some))
+idle-behind n w u hosts tries acked (Some a) is reached set idle some unrevoked unchanged named told =
+    ap (λ r. is_idle r.1.links) (sym told) ∙ installing-idle a hosts tries w (can_install n w hosts a is reached set idle unrevoked unchanged named)
 
-pub tells : (n : ℕ) (w u : WorldState) (hosts : List ℕ) (tries acked : ℕ) (o : Option Adoption) → w.adopted ≡ o → IsReached (fabric_of w) w → IfSome o (IsSetOfHosts n) → is_idle w.links ≡ true → IfSome o (IsUnrevoked w)
-    → IfSome o (λ a. (h : ℕ) → list_any (nat_eq h) hosts ≡ is_among a.mapper a.routes h) → 1 ≤ tries
+pub tells : (n : ℕ) (w u : WorldState) (hosts : List ℕ) (tries acked : ℕ) (o : Option Adoption) → w.adopted ≡ o → IsReached (fabric_at w.links.cables 0) w → IfSome o (IsSetOfHosts n) → is_idle w.links ≡ true → IfSome o (IsUnrevoked w)
+    → IfSome o (IsUnchanged w) → IfSome o (λ a. (h : ℕ) → list_any (nat_eq h) hosts ≡ is_among a.mapper a.routes h) → 1 ≤ tries
     → IfSome o (λ a. installed a hosts tries w ≡ (acked, u)) → IfSome o (λ a. u.injected < last_count → TellsCause a hosts tries acked w u)
-tells n w u hosts tries acked None is reached set idle unrevoked named some told = tt
-tells n w u hosts tries acked (Some a) is reached set idle unrevoked named some told =
-    λ left. told-cause w u hosts tries acked a (can_install n w hosts a is reached set idle unrevoked named) some told left
+tells n w u hosts tries acked None is reached set idle unrevoked unchanged named some told = tt
+tells n w u hosts tries acked (Some a) is reached set idle unrevoked unchanged named some told =
+    λ left. told-cause w u hosts tries acked a (can_install n w hosts a is reached set idle unrevoked unchanged named) some told left
+
+-- an adoption leaves the number of changes, which is the set's
+pub adopted-unchanged : AdoptedIsUnchanged
+adopted-unchanged w mapper routes = stays w.links (keeps_epoch w routes)
+  where
+    stays : (s : LinkState) (b : Bool) → (if b then s else accept s).cables.changes ≡ s.cables.changes
+    stays s true = refl
+    stays s false = refl

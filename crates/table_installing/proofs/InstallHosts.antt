@@ -5,6 +5,7 @@ use Rattle.std.specs.List.{AllByRecursion, list_any, range_with_len}
 use Rattle.std.proofs.lemmas.Bool.Decides.{nat_tests}
 use Rattle.net_defs.proofs.Distinct.{all-weaker}
 use Rattle.net_defs.specs.declared.route.Route.{Route}
+use Rattle.cable_history.specs.Later.{OnlyPulled}
 use Rattle.world_defs.specs.Table.{Adoption, part_count, entries_from}
 use Rattle.world_defs.specs.World.{WorldState, fabric_of, host_count}
 use Rattle.world_defs.specs.Asking.{all_given_up}
@@ -12,12 +13,13 @@ use Rattle.world_defs.specs.EightBits.{IsByteEvent}
 use Rattle.world_defs.specs.Install.{parts_of}
 use Rattle.world_defs.proofs.LogViews.{installed}
 use Rattle.world_defs.specs.Log.{came_to}
-use Rattle.world_defs.proofs.LogRows.{hosts-row, byte_asks}
+use Rattle.world_defs.proofs.LogRows.{hosts-row, install-row, byte_asks}
 use Rattle.route_install.specs.Installing.{AreHosts}
 use Rattle.adopted_routes.specs.Adopting.{is_among, IsSetOfHosts, part_count_for}
 use Rattle.world_defs.specs.Logs as log
-use Rattle.world_defs.specs.Row.{IsPartWay}
+use Rattle.world_defs.specs.Row.{IsRow, IsPartWay}
 use Rattle.fab_world.specs.Held.{IsMoment, IsLater}
+use Rattle.world_drain.proofs.Cables.{PlugsNone, way-pulled, done-pulled}
 use Rattle.table_installing.specs.Installing.{CanInstall}
 
 -- the hosts among a set's are hosts
@@ -131,3 +133,16 @@ hosts-later a tries hosts w v acked is =
 pub adopted-later : (w v : WorldState) (o : Option Adoption) (mapper : ℕ) → option_map (λ a. a.mapper) o ≡ Some mapper → ((a : Adoption) → o ≡ Some a → IsLater w v) → IsLater w v
 adopted-later w v None mapper e later = cc
 adopted-later w v (Some a) mapper e later = later a refl
+
+-- no event of an installation plugs
+plugs_none : (a : Adoption) (hosts : List ℕ) (tries : ℕ) (w : WorldState) → IsRow PlugsNone w (log.install a hosts tries w).events (log.install a hosts tries w).world
+plugs_none a hosts tries w = install-row (record { advance = λ c. refl; inject = λ h. refl; give_up = λ h. refl }) (λ dst part. refl) a hosts tries w
+
+-- so cables are pulled at most, in part of it and in all of it
+pub cut-pulled : (w v : WorldState) (hosts : List ℕ) (tries : ℕ) (o : Option Adoption) → IsSome o → IfSome o (λ a. IsPartWay w (log.install a hosts tries w).events v) → OnlyPulled w.links.cables v.links.cables
+cut-pulled w v hosts tries None some way = absurd (true≢false (sym some))
+cut-pulled w v hosts tries (Some a) some way = way-pulled (plugs_none a hosts tries w) way
+
+pub all-pulled : (w v : WorldState) (hosts : List ℕ) (tries : ℕ) (o : Option Adoption) → IsSome o → IfSome o (λ a. v ≡ (log.install a hosts tries w).world) → OnlyPulled w.links.cables v.links.cables
+all-pulled w v hosts tries None some after = absurd (true≢false (sym some))
+all-pulled w v hosts tries (Some a) some after = done-pulled (log.install a hosts tries w) w v (plugs_none a hosts tries w) after

@@ -22,12 +22,23 @@ AdoptedIsUnrevoked =
     (n : Network) (w : WorldState) (mapper : ℕ) (routes : List Route) → IsReached n w → may_adopt w routes ≡ true
     → IsUnrevoked (adopted_by w mapper routes) (adoption_of w mapper routes)
 
--- What an installation begins with: routes are adopted, no host has given up their epoch, no packet is on its way, the
--- hosts are the adopter and those that the routes name, each once by rising address, and each part is tried once to
--- eight times.
+-- no cable came or went since a set's adoption
+abbrev pub IsUnchanged : WorldState → Adoption → Type 0
+IsUnchanged w a = w.links.cables.changes ≡ a.at
+
+-- so it is after each adoption
+abbrev pub AdoptedIsUnchanged : Type 0
+AdoptedIsUnchanged =
+    (w : WorldState) (mapper : ℕ) (routes : List Route)
+    → IsUnchanged (adopted_by w mapper routes) (adoption_of w mapper routes)
+
+-- What an installation begins with: routes are adopted, no host has given up their epoch, no cable came or went since
+-- their adoption, no packet is on its way, the hosts are the adopter and those that the routes name, each once by
+-- rising address, and each part is tried once to eight times.
 pub record CanInstall (w : WorldState) (hosts : List ℕ) (tries : ℕ) : Type 0 where
   pub adopted : IsSome w.adopted
   pub unrevoked : IfSome w.adopted (IsUnrevoked w)
+  pub unchanged : IfSome w.adopted (IsUnchanged w)
   pub idle : is_idle w.links ≡ true
   pub rise : AreHosts hosts
   pub named : IfSome w.adopted (λ a. (h : ℕ) → list_any (nat_eq h) hosts ≡ is_among a.mapper a.routes h)

@@ -2,9 +2,10 @@
 
 ghost use Rattle.std.specs.Prelude.{◌≡◌, ◌≤◌, ◌<◌, true, length, Some, option_map, is_some, IfOk, IfSome, OnOk, OnErr};
 ghost use Rattle.std.specs.List.{AllByRecursion};
+ghost use Rattle.cable_history.specs.Later.{OnlyPulled};
 ghost use Rattle.link_defs.specs.Links.{is_idle};
 ghost use Rattle.world_defs.specs.Table.{Adoption};
-ghost use Rattle.world_defs.specs.World.{fabric_of, host_count, last_count};
+ghost use Rattle.world_defs.specs.World.{host_count, last_count};
 ghost use Rattle.world_defs.specs.Log.{came_to};
 ghost use Rattle.world_defs.specs.Logs as log;
 ghost use Rattle.world_defs.specs.Row.{IsPartWay};
@@ -31,7 +32,8 @@ pub struct Installed {
 /// Installs the adopted routes on the adopter and the hosts that they name. Every host gives up what it staged; then
 /// each host is sent its parts, each up to so many times, and a part that isn't acknowledged ends the work for its
 /// host. Where injections are left then, each host that isn't counted has a part each of whose tries met a planned
-/// fault. Running out of memory leaves a world that a prefix of its events leads to.
+/// fault, or ended with a cable of its routes pulled. Running out of memory leaves a world that a prefix of its events
+/// leads to.
 pub fn install(
     alloc: Global,
     w: &mut World,
@@ -49,7 +51,7 @@ pub fn install(
     ensures err { OnErr result (IfSome w.old.adopted (λ a.
         IsPartWay w.old (log.install a hosts.now tries w.old).events w.new)) }
     ensures idle { OnOk result (is_idle w.new.links ≡ true) }
-    ensures fabric { fabric_of w.new ≡ fabric_of w.old }
+    ensures cables { OnlyPulled w.old.links.cables w.new.links.cables }
     ensures hosts { host_count w.new ≡ host_count w.old }
     ensures channels { length w.new.links.channels ≡ length w.old.links.channels }
     ensures adopted { w.new.adopted ≡ w.old.adopted }
@@ -87,7 +89,6 @@ fn install_hosts(
         → IfOk result (λ k. came_to (log.hosts a tries hosts.now w.old) ≡ (k, w.new)) }
     ensures err { (a : Adoption) → w.old.adopted ≡ Some a
         → OnErr result (IsPartWay w.old (log.hosts a tries hosts.now w.old).events w.new) }
-    ensures fabric { fabric_of w.new ≡ fabric_of w.old }
     ensures hosts { host_count w.new ≡ host_count w.old }
 {
     let works = works_for(alloc, w, hosts)?;

@@ -1,7 +1,7 @@
 //! One try of a part of a host's table.
 
 ghost use Rattle.std.specs.Prelude.{◌≡◌, is_some, IfOk, OnOk, OnErr};
-ghost use Rattle.world_defs.specs.World.{fabric_of, host_count};
+ghost use Rattle.world_defs.specs.World.{host_count};
 ghost use Rattle.world_defs.specs.Logs as log;
 ghost use Rattle.world_defs.specs.Row.{IsPartWay};
 ghost use Rattle.fab_world.specs.Events.{IsHostOf};
@@ -26,7 +26,6 @@ pub(crate) fn part_try(
     ensures found { IfOk result (λ epoch. is_some epoch ≡ (log.part_try mapper dst part w.old).value.found) }
     ensures after { OnOk result (w.new ≡ (log.part_try mapper dst part w.old).world) }
     ensures err { OnErr result (IsPartWay w.old (log.part_try mapper dst part w.old).events w.new) }
-    ensures fabric { fabric_of w.new ≡ fabric_of w.old }
     ensures hosts { host_count w.new ≡ host_count w.old }
 {
     happen(alloc, w, Event::Part { dst, part })?;
@@ -50,7 +49,6 @@ fn send(alloc: Global, w: &mut World, host: u16, watch: Watch) -> Result<Seen, A
     ensures seen { IfOk result (λ s. s ≡ seen_in watch (log.sends host w.old).value.effects) }
     ensures after { OnOk result (w.new ≡ (log.sends host w.old).world) }
     ensures err { OnErr result (IsPartWay w.old (log.sends host w.old).events w.new) }
-    ensures fabric { fabric_of w.new ≡ fabric_of w.old }
     ensures hosts { host_count w.new ≡ host_count w.old }
 {
     happen(alloc, w, Event::Inject(host))?;

@@ -13,10 +13,10 @@ use Rattle.link_defs.proofs.Shapes.{stepped-cables}
 use Rattle.world_defs.specs.declared.event.Event.{Event}
 use Rattle.world_defs.specs.declared.effect.Effect.{Effect}
 use Rattle.world_defs.specs.declared.fault.Fault.{Fault}
-use Rattle.world_defs.specs.declared.fault.Fault.TheVariants.{Lose as LoseFault, Repeat as RepeatFault, Hold as HoldFault, Flip as FlipFault}
+use Rattle.world_defs.specs.declared.fault.Fault.TheVariants.{Lose as LoseFault, Repeat as RepeatFault, Hold as HoldFault, Flip as FlipFault, Pull as PullFault}
 use Rattle.world_defs.specs.EightBits.{IsByteFault, IsByteEvent, HasByteFaults}
 use Rattle.world_defs.specs.Node.{Outgoing, to_send, packet_for, after_sending}
-use Rattle.world_defs.specs.World.{WorldState, last_count, node_at, keeps_epoch}
+use Rattle.world_defs.specs.World.{WorldState, last_count, node_at, keeps_out, keeps_epoch}
 use Rattle.world_defs.specs.Step.{planned_strikes, sent_out}
 use Rattle.act_defs.specs.Acts.{Act, Happens, Plans, Adopts, acted, IsByteAct}
 use Rattle.world_defs.proofs.Views.{LinksChange, Change, view}
@@ -49,12 +49,15 @@ links-good F epoch (LinksChange.repeats k) low = tt
 links-good F epoch (LinksChange.holds k) low = tt
 links-good F epoch (LinksChange.flips k) low = low
 links-good F epoch (LinksChange.replays k) low = tt
+links-good F epoch (LinksChange.pulls k) low = tt
+links-good F epoch (LinksChange.plugs k) low = tt
 
 fault-good : (F : ℕ → Held → Type 0) (epoch c : ℕ) (f : Fault) → IsByteFault f → IsGoodStep F epoch (fault_step c f)
 fault-good F epoch c LoseFault low = tt
 fault-good F epoch c RepeatFault low = tt
 fault-good F epoch c HoldFault low = tt
 fault-good F epoch c (FlipFault bit pattern) low = low
+fault-good F epoch c (PullFault at) low = tt
 
 -- a host's packet enters its empty channel, and counts as sent
 pub record Enters (w v : WorldState) (h c : ℕ) (out : Outgoing) : Type 0 where
@@ -62,6 +65,7 @@ pub record Enters (w v : WorldState) (h c : ℕ) (out : Outgoing) : Type 0 where
   pub sends : to_send h (node_at w h) ≡ Some out
   pub room : packet_in w.links c ≡ None
   pub left : w.injected < last_count
+  pub allowed : keeps_out w c out ≡ false
   pub nodes : v.nodes ≡ set w.nodes h (after_sending (node_at w h) out)
 
 -- what holds of a new packet, once it counts as sent
@@ -93,7 +97,7 @@ module _ (F : ℕ → Held → Type 0) (w : WorldState) (carries : Carries w.lin
   change-holds (Change.drops {c = c} packet why d e f) low new = stepped-holds F w.links (AdvanceLinks c) carries tt links
   change-holds (Change.arrives {c = c} packet h d e f g) low new = stepped-holds F w.links (AdvanceLinks c) carries tt links
   change-holds (Change.host k) low new = links
-  change-holds (Change.injects {h = h} c out d e f g) low new = injection-holds h c out (new h c out (record { cable = d; sends = e; room = f; left = g; nodes = injection-nodes w h c out }))
+  change-holds (Change.injects {h = h} c out d e f g o) low new = injection-holds h c out (new h c out (record { cable = d; sends = e; room = f; left = g; allowed = o; nodes = injection-nodes w h c out }))
   change-holds (Change.calls k) low new = links
 
   -- every act

@@ -8,3 +8,4 @@ pub mod Steps
 pub mod Travels
 pub mod Dependencies
 pub mod TwoHosts
+pub mod Uncut

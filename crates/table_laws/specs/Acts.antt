@@ -5,10 +5,11 @@ use Rattle.packet_defs.specs.declared.kind.Kind.TheVariants.{Mapping, Gm}
 use Rattle.packet_defs.specs.Packet.{packet_of, difference}
 use Rattle.packet_defs.specs.Burst.{flipped}
 use Rattle.packet_defs.specs.Host.{decode}
+use Rattle.cable_history.specs.History.{IsHistory, fabric_at}
 use Rattle.link_defs.specs.Links.{Held, packet_in}
 use Rattle.mapping_defs.specs.Mapping.{RoutePart, Part, decode_mapping}
 use Rattle.net_defs.specs.Dependencies.{IsBefore, HasNoCycle}
-use Rattle.world_defs.specs.Table.{Adoption, ActiveTable, last_epoch}
+use Rattle.world_defs.specs.Table.{Adoption, ActiveTable, last_epoch, at_in}
 use Rattle.world_defs.specs.World.{WorldState, host_count, node_at, epoch_of}
 use Rattle.world_defs.specs.Sound.{installed_channels}
 use Rattle.act_defs.specs.Acts.{AreAdoptable, IsReached}
@@ -31,10 +32,21 @@ abbrev pub ActiveIsOfSet : Type 0
 ActiveIsOfSet = (n : Network) (w : WorldState) (h : ℕ) (t : ActiveTable) → IsReached n w
     → (node_at w h).table.active ≡ Some t → IsActive w.adopted h t
 
--- the adopted set has an epoch from 1 on, and may be adopted
+-- the adopted set has an epoch from 1 on, and was adoptable in the fabric as it stood then
 abbrev pub AdoptedIsAdoptable : Type 0
 AdoptedIsAdoptable = (n : Network) (w : WorldState) (a : Adoption) → IsReached n w → w.adopted ≡ Some a
-    → ((0 < a.epoch) × (a.epoch ≤ last_epoch)) × AreAdoptable n a.routes
+    → ((0 < a.epoch) × (a.epoch ≤ last_epoch)) × AreAdoptable (fabric_at w.links.cables a.at) a.routes
+
+-- The cables are a history that begins with the fabric; they were accepted at the adoption.
+pub record HasHistory (n : Network) (w : WorldState) : Type 0 where
+  pub history : IsHistory w.links.cables
+  pub first : fabric_at w.links.cables 0 ≡ n
+  pub accepted : w.links.cables.accepted ≡ at_in w.adopted
+  pub began : at_in w.adopted ≤ w.links.cables.changes
+
+-- so it is after every list of acts
+abbrev pub CablesAreHistory : Type 0
+CablesAreHistory = (n : Network) (w : WorldState) → IsReached n w → HasHistory n w
 
 -- the links count the epochs of adopted sets
 abbrev pub LinksAreOfEpoch : Type 0

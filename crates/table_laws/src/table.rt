@@ -1,13 +1,14 @@
 //! The tables of every reached world: `specs/Acts.antt` has the statements.
 
 ghost use Rattle.table_laws.specs.Acts.{TablesAreOfSet, ActiveIsOfSet, AdoptedIsAdoptable, PartsAreOfSet};
-ghost use Rattle.table_laws.specs.Acts.{LinksAreOfEpoch, InstalledHasNoCycle, WidePatternIsUnseen};
+ghost use Rattle.table_laws.specs.Acts.{CablesAreHistory, LinksAreOfEpoch, InstalledHasNoCycle, WidePatternIsUnseen};
 
 /// Each table is of the adopted set, whatever happens, and so is each part on its way, or of an epoch before it.
 pub fn tables_of_set()
     ensures tables { TablesAreOfSet }
     ensures active { ActiveIsOfSet }
     ensures adopted { AdoptedIsAdoptable }
+    ensures cables { CablesAreHistory }
     ensures epoch { LinksAreOfEpoch }
     ensures parts { PartsAreOfSet }
 {}

@@ -1,6 +1,6 @@
 -- Tries in a row, under way.
 use Rattle.std.proofs.Common.{◌≡◌, ◌<◌, ◌-◌, ℕ, zero, suc, Bool, true, false, ◌&&◌, refl, sym, ◌∙◌, ap, arith, if◌then◌else◌}
-use Rattle.world_defs.specs.World.{WorldState, fabric_of, host_count}
+use Rattle.world_defs.specs.World.{WorldState, host_count}
 use Rattle.world_defs.specs.Step.{after_all}
 use Rattle.world_defs.specs.Log.{Log, told, and_do}
 use Rattle.world_defs.specs.Logs.{Tried, tries}
@@ -18,11 +18,10 @@ both_tried t u = also t.harmed u
 -- Tries under way: so many are left, and a fault met all that were made, or not.
 pub record Trying {A : Type 0} (is_found : A → Bool) (nothing : A) (one : WorldState → Log (Tried A)) (k : ℕ) (first now : WorldState) (left : ℕ) (harmed : Bool) : Type 0 where
   pub way : UnderWay (also harmed) (tries is_found nothing one k first) first now (tries is_found nothing one left now)
-  pub fabric : fabric_of now ≡ fabric_of first
   pub hosts : host_count now ≡ host_count first
 
 pub trying-none : {A : Type 0} (is_found : A → Bool) (nothing : A) (one : WorldState → Log (Tried A)) (k : ℕ) (w : WorldState) → Trying is_found nothing one k w w k true
-trying-none is_found nothing one k w = record { way = under_way-none w (tries is_found nothing one k w); fabric = refl; hosts = refl }
+trying-none is_found nothing one k w = record { way = under_way-none w (tries is_found nothing one k w); hosts = refl }
 
 -- the last found something
 pub trying-found : {A : Type 0} (is_found : A → Bool) (nothing : A) (one : WorldState → Log (Tried A)) (k : ℕ) (first now : WorldState) (left : ℕ) (harmed : Bool)
@@ -41,10 +40,10 @@ and-assoc false b c = refl
 -- it found nothing
 pub trying-on : {A : Type 0} (is_found : A → Bool) (nothing : A) (one : WorldState → Log (Tried A)) (k : ℕ) (first now next : WorldState) (left after : ℕ) (harmed both : Bool)
     → Trying is_found nothing one k first now left harmed → 0 < left → after ≡ left - 1 → is_found (one now).value.found ≡ false → next ≡ (one now).world → (one now).world ≡ after_all now (one now).events
-    → fabric_of next ≡ fabric_of now → host_count next ≡ host_count now → both ≡ (harmed && (one now).value.harmed)
+    → host_count next ≡ host_count now → both ≡ (harmed && (one now).value.harmed)
     → Trying is_found nothing one k first next after both
-trying-on is_found nothing one k first now next zero after harmed both t some less e is led net hosts made = absurd (omega (arith, some))
-trying-on {A = A} is_found nothing one k first now next (suc n) after harmed both t some less e is led net hosts made =
+trying-on is_found nothing one k first now next zero after harmed both t some less e is led hosts made = absurd (omega (arith, some))
+trying-on {A = A} is_found nothing one k first now next (suc n) after harmed both t some less e is led hosts made =
     let fewer : after ≡ n = omega (arith, less) in
     let left : Log (Tried A) = tries is_found nothing one after next in
     let opened : tries is_found nothing one (suc n) now ≡ behind (also (one now).value.harmed) (one now).events left =
@@ -53,7 +52,6 @@ trying-on {A = A} is_found nothing one k first now next (suc n) after harmed bot
     record {
       way = under_way-on (also (one now).value.harmed) (also both) next (one now).events left t.way (is ∙ led) opened
           (λ u. ap (λ b. record u { harmed = b }) (and-assoc harmed (one now).value.harmed u.harmed ∙ ap (λ b. b && u.harmed) (sym made)));
-      fabric = net ∙ t.fabric;
       hosts = hosts ∙ t.hosts;
     }
 

@@ -7,11 +7,12 @@ use Rattle.net_defs.specs.declared.place.Answer.TheVariants.{Nothing}
 use Rattle.net_defs.specs.Turn.{IsTurn}
 use Rattle.net_defs.specs.Route.{answer}
 use Rattle.link_defs.specs.Links.{is_idle}
-use Rattle.world_defs.specs.World.{WorldState, fabric_of, host_count}
+use Rattle.cable_history.specs.History.{fabric_at}
+use Rattle.world_defs.specs.World.{WorldState, host_count}
 use Rattle.world_defs.proofs.LogViews.{ask}
 use Rattle.world_defs.specs.Logs as log
 use Rattle.probe.specs.Drowning.{IsTrueOrDrowned}
-use Rattle.ask_laws.specs.Premises.{CanAsk}
+use Rattle.ask_laws.specs.Premises.{HasStood, CanAsk}
 use Rattle.ask_laws.proofs.Answering.{ask-true}
 use Rattle.fab_world.specs.Held.{IsMoment}
 
@@ -22,9 +23,9 @@ by_recursion (x ∷ xs) all = (all 0 x (omega arith), by_recursion xs (λ i d lo
 pub turns-in_range : (turns walk : List ℤ) → turns ≡ walk → All IsTurn turns → AllByRecursion IsTurn walk
 turns-in_range turns walk e all = subst (AllByRecursion IsTurn) e (by_recursion turns all)
 
-pub can-ask : (w : WorldState) (mapper : ℕ) (walk : List ℤ) → IsMoment w → is_idle w.links ≡ true → mapper < host_count w → AllByRecursion IsTurn walk → length walk ≤ 31 → CanAsk w mapper walk
-can-ask w mapper walk m idle there turns few = record {
-  fabric = m.fabric;
+pub can-ask : (made : ℕ) (w : WorldState) (mapper : ℕ) (walk : List ℤ) → HasStood made w.links.cables → IsMoment w → is_idle w.links ≡ true → mapper < host_count w → AllByRecursion IsTurn walk → length walk ≤ 31 → CanAsk made w mapper walk
+can-ask made w mapper walk stood m idle there turns few = record {
+  stood = stood;
   world = m.world;
   idle = idle;
   is_host = there;
@@ -33,18 +34,18 @@ can-ask w mapper walk m idle there turns few = record {
   byte_flips = m.plan;
 }
 
-pub told-drowned : (w : WorldState) (mapper tries : ℕ) (walk : List ℤ) (a : Answer) (before now : ℕ) → CanAsk w mapper walk → a ≡ (log.ask mapper tries walk w).value.answer → Rose before now
-    → IsTrueOrDrowned (answer (fabric_of w) mapper walk) before now a
-told-drowned w mapper tries walk a before now can told rose = by (ask-true w mapper tries walk can)
+pub told-drowned : (made : ℕ) (w : WorldState) (mapper tries : ℕ) (walk : List ℤ) (a : Answer) (before now : ℕ) → CanAsk made w mapper walk → a ≡ (log.ask made mapper tries walk w).value.answer → Rose before now
+    → IsTrueOrDrowned (answer (fabric_at w.links.cables made) mapper walk) before now a
+told-drowned made w mapper tries walk a before now can told rose = by (ask-true made w mapper tries walk can)
   where
-    by : ((ask mapper tries walk w).answer ≡ answer (fabric_of w) mapper walk) ⊎ (((ask mapper tries walk w).answer ≡ Nothing) × ((ask mapper tries walk w).drowned ≡ true)) → IsTrueOrDrowned (answer (fabric_of w) mapper walk) before now a
+    by : ((ask made mapper tries walk w).answer ≡ answer (fabric_at w.links.cables made) mapper walk) ⊎ (((ask made mapper tries walk w).answer ≡ Nothing) × ((ask made mapper tries walk w).drowned ≡ true)) → IsTrueOrDrowned (answer (fabric_at w.links.cables made) mapper walk) before now a
     by (inl e) = inl (told ∙ e)
     by (inr (e, d)) = inr (told ∙ e, rose)
 
-pub told-true : (w : WorldState) (mapper tries : ℕ) (walk : List ℤ) (a : Answer) (before now : ℕ) → CanAsk w mapper walk → a ≡ (log.ask mapper tries walk w).value.answer → (log.ask mapper tries walk w).value.drowned ≡ false
-    → IsTrueOrDrowned (answer (fabric_of w) mapper walk) before now a
-told-true w mapper tries walk a before now can told alive = by (ask-true w mapper tries walk can)
+pub told-true : (made : ℕ) (w : WorldState) (mapper tries : ℕ) (walk : List ℤ) (a : Answer) (before now : ℕ) → CanAsk made w mapper walk → a ≡ (log.ask made mapper tries walk w).value.answer → (log.ask made mapper tries walk w).value.drowned ≡ false
+    → IsTrueOrDrowned (answer (fabric_at w.links.cables made) mapper walk) before now a
+told-true made w mapper tries walk a before now can told alive = by (ask-true made w mapper tries walk can)
   where
-    by : ((ask mapper tries walk w).answer ≡ answer (fabric_of w) mapper walk) ⊎ (((ask mapper tries walk w).answer ≡ Nothing) × ((ask mapper tries walk w).drowned ≡ true)) → IsTrueOrDrowned (answer (fabric_of w) mapper walk) before now a
+    by : ((ask made mapper tries walk w).answer ≡ answer (fabric_at w.links.cables made) mapper walk) ⊎ (((ask made mapper tries walk w).answer ≡ Nothing) × ((ask made mapper tries walk w).drowned ≡ true)) → IsTrueOrDrowned (answer (fabric_at w.links.cables made) mapper walk) before now a
     by (inl e) = inl (told ∙ e)
     by (inr (e, d)) = absurd (true≢false (sym d ∙ alive))

@@ -1,7 +1,7 @@
 //! An ask of a mapper.
 
 ghost use Rattle.std.specs.Prelude.{◌≡◌, ◌≤◌, length, IfOk, OnOk, OnErr};
-ghost use Rattle.world_defs.specs.World.{fabric_of, host_count};
+ghost use Rattle.world_defs.specs.World.{host_count};
 ghost use Rattle.world_defs.specs.Logs as log;
 ghost use Rattle.world_defs.specs.Row.{IsPartWay};
 ghost use Rattle.fab_world.specs.Events.{IsHostOf};
@@ -19,24 +19,24 @@ pub(crate) struct Asked {
     pub(crate) drowned: bool,
 }
 
-/// An ask: every host gives up what it staged; up to so many host probes, to the first reply; without one up to so
-/// many loopback probes, to the first that returns. Running out of memory leaves a world that a prefix of its events
-/// leads to.
+/// An ask of a mapper that was made after so many changes of cables: every host gives up what it staged; up to so many
+/// host probes, to the first reply; without one up to so many loopback probes, to the first that returns. Running
+/// out of memory leaves a world that a prefix of its events leads to.
 #[tactic(auto, unfolding(world_defs::specs::Logs::ask))]
 pub(crate) fn ask(
     alloc: Global,
     w: &mut World,
+    made: u64,
     mapper: u16,
     tries: u8,
     walk: &Walk,
 ) -> Result<Asked, AllocError>
     requires there { IsHostOf w.old mapper }
     requires short { length walk.now ≤ 31 }
-    ensures answer { IfOk result (λ a. a.answer ≡ (log.ask mapper tries walk.now w.old).value.answer) }
-    ensures drowned { IfOk result (λ a. a.drowned ≡ (log.ask mapper tries walk.now w.old).value.drowned) }
-    ensures after { OnOk result (w.new ≡ (log.ask mapper tries walk.now w.old).world) }
-    ensures err { OnErr result (IsPartWay w.old (log.ask mapper tries walk.now w.old).events w.new) }
-    ensures fabric { fabric_of w.new ≡ fabric_of w.old }
+    ensures answer { IfOk result (λ a. a.answer ≡ (log.ask made mapper tries walk.now w.old).value.answer) }
+    ensures drowned { IfOk result (λ a. a.drowned ≡ (log.ask made mapper tries walk.now w.old).value.drowned) }
+    ensures after { OnOk result (w.new ≡ (log.ask made mapper tries walk.now w.old).world) }
+    ensures err { OnErr result (IsPartWay w.old (log.ask made mapper tries walk.now w.old).events w.new) }
     ensures hosts { host_count w.new ≡ host_count w.old }
 {
     give_up_all(alloc, w)?;
@@ -54,6 +54,6 @@ pub(crate) fn ask(
         } else {
             Answer::Nothing
         },
-        drowned: !loops.found && (hosts.harmed || loops.harmed),
+        drowned: !loops.found && (hosts.harmed || made < w.changes() || loops.harmed),
     })
 }

@@ -1,7 +1,7 @@
 //! The tries of an ask: each a probe alone, injected and drained.
 
 ghost use Rattle.std.specs.Prelude.{◌≡◌, ◌≤◌, ◌&&◌, length, true, false, is_some, None, IfOk, OnOk, OnErr};
-ghost use Rattle.world_defs.specs.World.{fabric_of, host_count};
+ghost use Rattle.world_defs.specs.World.{host_count};
 ghost use Rattle.world_defs.specs.Step.{step};
 ghost use Rattle.world_defs.specs.declared.event.Event.TheVariants.{Ask, Inject};
 ghost use Rattle.world_defs.specs.Asking.{is_used_up, number_of};
@@ -52,7 +52,6 @@ pub(crate) fn host_tries(
     ensures after { OnOk result (w.new ≡ (log.tries is_some None (log.host_try mapper walk.now) tries w.old).world) }
     ensures err { OnErr result (IsPartWay w.old
         (log.tries is_some None (log.host_try mapper walk.now) tries w.old).events w.new) }
-    ensures fabric { fabric_of w.new ≡ fabric_of w.old }
     ensures hosts { host_count w.new ≡ host_count w.old }
 {
     let mut harmed = true;
@@ -92,7 +91,6 @@ pub(crate) fn loop_tries(
     ensures after { OnOk result (w.new ≡ (log.tries (λ b. b) false (log.loop_try mapper walk.now) tries w.old).world) }
     ensures err { OnErr result (IsPartWay w.old
         (log.tries (λ b. b) false (log.loop_try mapper walk.now) tries w.old).events w.new) }
-    ensures fabric { fabric_of w.new ≡ fabric_of w.old }
     ensures hosts { host_count w.new ≡ host_count w.old }
 {
     let mut harmed = true;
@@ -122,7 +120,6 @@ fn host_try(alloc: Global, w: &mut World, mapper: u16, walk: &Walk) -> Result<Ho
     ensures harmed { IfOk result (λ t. t.harmed ≡ (log.host_try mapper walk.now w.old).value.harmed) }
     ensures after { OnOk result (w.new ≡ (log.host_try mapper walk.now w.old).world) }
     ensures err { OnErr result (IsPartWay w.old (log.host_try mapper walk.now w.old).events w.new) }
-    ensures fabric { fabric_of w.new ≡ fabric_of w.old }
     ensures hosts { host_count w.new ≡ host_count w.old }
 {
     let before = w.harmed();
@@ -156,7 +153,6 @@ fn loop_try(alloc: Global, w: &mut World, mapper: u16, walk: &Walk) -> Result<Lo
     ensures harmed { IfOk result (λ t. t.harmed ≡ (log.loop_try mapper walk.now w.old).value.harmed) }
     ensures after { OnOk result (w.new ≡ (log.loop_try mapper walk.now w.old).world) }
     ensures err { OnErr result (IsPartWay w.old (log.loop_try mapper walk.now w.old).events w.new) }
-    ensures fabric { fabric_of w.new ≡ fabric_of w.old }
     ensures hosts { host_count w.new ≡ host_count w.old }
 {
     let before = w.harmed();
@@ -188,7 +184,6 @@ fn send_probe(
         ≡ number_of (step (step w.old (Ask host walk.now looped)).1 (Inject host)).0) }
     ensures after { OnOk result (w.new ≡ (step (step w.old (Ask host walk.now looped)).1 (Inject host)).1) }
     ensures err { OnErr result (w.new ≡ w.old) }
-    ensures fabric { fabric_of w.new ≡ fabric_of w.old }
     ensures hosts { host_count w.new ≡ host_count w.old }
 {
     let used_up = is_used_up(w, host);
@@ -203,7 +198,6 @@ fn inject(alloc: Global, w: &mut World, host: u16) -> Result<Injection, AllocErr
     ensures number { IfOk result (λ i. i.number ≡ number_of (step w.old (Inject host)).0) }
     ensures after { OnOk result (w.new ≡ (step w.old (Inject host)).1) }
     ensures err { OnErr result (w.new ≡ w.old) }
-    ensures fabric { fabric_of w.new ≡ fabric_of w.old }
     ensures hosts { host_count w.new ≡ host_count w.old }
 {
     let used_up = is_used_up(w, host);

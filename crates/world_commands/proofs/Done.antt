@@ -80,20 +80,20 @@ pub done_as : (c d : Command) (w v : WorldState) (told : PrintedState) → IsDon
 done_as c d w v told done same = subst (λ x. IsDone x w v told) same done
 
 -- a command that is none of the others is of one event at most
-pub one-event : (c : Command) → ((host depth tries : ℕ) → c ≡ Map host depth tries → ⊥) → ((host depth : ℕ) → c ≡ Circuit host depth → ⊥) → (c ≡ Routes → ⊥) → ((tries : ℕ) → c ≡ Install tries → ⊥) → (c ≡ Settle → ⊥) → IsOther c → IsOneEvent c
-one-event (Map host depth tries) m k r i s o = m host depth tries refl
-one-event (Circuit host depth) m k r i s o = k host depth refl
-one-event Routes m k r i s o = r refl
-one-event (Install tries) m k r i s o = i tries refl
-one-event Settle m k r i s o = s refl
-one-event (Walk host walk) m k r i s o = tt
-one-event (Begin host port sends recvs) m k r i s o = tt
-one-event (Close host port) m k r i s o = tt
-one-event (Poll host port) m k r i s o = tt
-one-event (Tokens host port) m k r i s o = tt
-one-event (Provide host port size prio) m k r i s o = tt
-one-event (Send host port dest dport prio len seed) m k r i s o = tt
-one-event (Plan ahead kind) m k r i s o = tt
-one-event (Step line) m k r i s o = tt
-one-event Finish m k r i s o = tt
-one-event (Duo e) m k r i s o = absurd (o e refl)
+pub one-event : (c : Command) → ((host : ℕ) (walk : List ℤ) → c ≡ Walk host walk → ⊥) → ((host depth tries : ℕ) → c ≡ Map host depth tries → ⊥) → ((host depth : ℕ) → c ≡ Circuit host depth → ⊥) → (c ≡ Routes → ⊥) → ((tries : ℕ) → c ≡ Install tries → ⊥) → (c ≡ Settle → ⊥) → IsOther c → IsOneEvent c
+one-event (Map host depth tries) w m k r i s o = m host depth tries refl
+one-event (Circuit host depth) w m k r i s o = k host depth refl
+one-event Routes w m k r i s o = r refl
+one-event (Install tries) w m k r i s o = i tries refl
+one-event Settle w m k r i s o = s refl
+one-event (Walk host walk) w m k r i s o = w host walk refl
+one-event (Begin host port sends recvs) w m k r i s o = tt
+one-event (Close host port) w m k r i s o = tt
+one-event (Poll host port) w m k r i s o = tt
+one-event (Tokens host port) w m k r i s o = tt
+one-event (Provide host port size prio) w m k r i s o = tt
+one-event (Send host port dest dport prio len seed) w m k r i s o = tt
+one-event (Plan ahead kind) w m k r i s o = tt
+one-event (Step line) w m k r i s o = tt
+one-event Finish w m k r i s o = tt
+one-event (Duo e) w m k r i s o = absurd (o e refl)

@@ -3,6 +3,7 @@ pub mod Calls
 pub mod Cut
 pub mod Done
 pub mod Duos
+pub mod Later
 pub mod Naming
 pub mod Steps
 pub mod TableLines

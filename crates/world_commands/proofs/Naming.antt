@@ -1,9 +1,10 @@
 -- Each event names only channels and hosts that are there.
-use Rattle.std.proofs.Common.{◌≡◌, ◌<◌, ℕ, Bool, true, false, List, length, Option, Some, None, is_some, refl, sym, ap, subst, arith, if◌then◌else◌}
+use Rattle.std.proofs.Common.{◌≡◌, ◌<◌, ◌≤◌, ℕ, Bool, true, false, List, length, Option, Some, None, is_some, refl, sym, ap, subst, arith, if◌then◌else◌}
 use Rattle.std.specs.Option.{option_map}
 use Rattle.std.proofs.lemmas.Bool.Decides.{nat_tests}
 use Rattle.net_defs.specs.declared.vertex.Vertex.TheVariants.{Host}
 use Rattle.net_defs.specs.Network.{Network, has_vertex}
+use Rattle.cable_history.specs.Later.{IsLater}
 use Rattle.link_defs.specs.declared.moved.Course.TheVariants.{Enters}
 use Rattle.link_defs.specs.declared.replayed.Replayed.{Replayed}
 use Rattle.link_defs.specs.declared.replayed.Replayed.TheVariants.{Back, Busy}
@@ -25,6 +26,7 @@ use Rattle.world_defs.proofs.Views.{LinksChange, HostChange, ArrivalChange, Chan
 use Rattle.faulty_links.proofs.Arrivals.{course-host}
 use Rattle.fab_world.specs.Held.{IsMoment}
 use Rattle.world_commands.specs.Named.{IsNaming}
+use Rattle.world_commands.proofs.Later.{host-stays}
 
 -- the channel that a packet enters is there
 next-there : (w : WorldState) (c next : ℕ) (wire : List ℕ) → IsMoment w → course w.links.cables c wire ≡ Enters next → next < length w.links.channels
@@ -50,6 +52,8 @@ links-naming (LinksChange.repeats k) m = tt
 links-naming (LinksChange.holds k) m = tt
 links-naming (LinksChange.flips k) m = tt
 links-naming {w = w} (LinksChange.replays {serial = serial} {c = c} k) m = back-there w.links serial c m.world.links k
+links-naming (LinksChange.pulls k) m = tt
+links-naming (LinksChange.plugs k) m = tt
 
 host-naming : {w : WorldState} {e : Event} {x : Effect} {h : ℕ} {n : NodeState} → HostChange w e x h n → IsNaming w x
 host-naming HostChange.asks = tt
@@ -75,28 +79,28 @@ change-naming (Change.links k) m = links-naming k m
 change-naming (Change.drops packet why d e f) m = tt
 change-naming {w = w} (Change.arrives {c = c} packet h d e f k) m = arrival-naming (course-host w.links.cables c packet.wire h m.history e) k
 change-naming (Change.host k) m = host-naming k
-change-naming (Change.injects c out d e f g) m = tt
+change-naming (Change.injects c out d e f g allowed) m = tt
 change-naming (Change.calls k) m = tt
 
--- over another world of the same fabric
-naming-over : (w v : WorldState) (x : Effect) → fabric_of v ≡ fabric_of w → length v.links.channels ≡ length w.links.channels → IsNaming w x → IsNaming v x
-naming-over w v Idle net count is = tt
-naming-over w v (Injected n) net count is = tt
-naming-over w v (MovedTo c) net count is = subst (λ k. c < k) (sym count) is
-naming-over w v (Blocked c) net count is = subst (λ k. c < k) (sym count) is
-naming-over w v (Arrived h heard) net count is = subst (λ n. has_vertex n (Host h) ≡ true) (sym net) is
-naming-over w v (Dropped cause) net count is = tt
-naming-over w v Lost net count is = tt
-naming-over w v WasReset net count is = tt
-naming-over w v Flipped net count is = tt
-naming-over w v Expired net count is = tt
-naming-over w v GaveUp net count is = tt
-naming-over w v (Repeated serial) net count is = tt
-naming-over w v (WasHeld serial) net count is = tt
-naming-over w v (ReplayedTo c) net count is = subst (λ k. c < k) (sym count) is
-naming-over w v Staged net count is = tt
-naming-over w v (Said said) net count is = tt
+-- over a world after it
+naming-over : (w v : WorldState) (x : Effect) → IsLater w.links.cables v.links.cables → length w.links.channels ≤ length v.links.channels → IsNaming w x → IsNaming v x
+naming-over w v Idle later more is = tt
+naming-over w v (Injected n) later more is = tt
+naming-over w v (MovedTo c) later more is = omega (arith, is, more)
+naming-over w v (Blocked c) later more is = omega (arith, is, more)
+naming-over w v (Arrived h heard) later more is = host-stays w v h later is
+naming-over w v (Dropped cause) later more is = tt
+naming-over w v Lost later more is = tt
+naming-over w v WasReset later more is = tt
+naming-over w v Flipped later more is = tt
+naming-over w v Expired later more is = tt
+naming-over w v GaveUp later more is = tt
+naming-over w v (Repeated serial) later more is = tt
+naming-over w v (WasHeld serial) later more is = tt
+naming-over w v (ReplayedTo c) later more is = omega (arith, is, more)
+naming-over w v Staged later more is = tt
+naming-over w v (Said said) later more is = tt
 
 -- what an event did names what is there after it
-pub step-naming : (w v : WorldState) (e : Event) (x : Effect) → IsMoment w → step w e ≡ (x, v) → fabric_of v ≡ fabric_of w → length v.links.channels ≡ length w.links.channels → IsNaming v x
-step-naming w v e x m is net count = naming-over w v x net count (subst (IsNaming w) (ap (λ p. p.0) is) (change-naming (view w e) m))
+pub step-naming : (w v : WorldState) (e : Event) (x : Effect) → IsMoment w → step w e ≡ (x, v) → IsLater w.links.cables v.links.cables → length w.links.channels ≤ length v.links.channels → IsNaming v x
+step-naming w v e x m is later more = naming-over w v x later more (subst (IsNaming w) (ap (λ p. p.0) is) (change-naming (view w e) m))

@@ -4,7 +4,7 @@ use Rattle.world_defs.specs.declared.event.Event.{Event}
 use Rattle.world_defs.specs.Step.{step}
 use Rattle.world_defs.specs.World.{WorldState, fabric_of}
 use Rattle.run_defs.specs.declared.command.Command.{Command}
-use Rattle.run_defs.specs.declared.command.Command.TheVariants.{Map, Circuit, Routes, Install, Begin}
+use Rattle.run_defs.specs.declared.command.Command.TheVariants.{Walk, Map, Circuit, Routes, Install, Begin}
 use Rattle.run_defs.specs.declared.command.Command.TheVariants.{Close, Poll, Tokens, Provide, Send, Settle, Duo}
 use Rattle.run_defs.specs.declared.line.ClientCall.{ClientCall}
 use Rattle.run_defs.specs.Outcome.{called, outcome}
@@ -35,9 +35,10 @@ IsCall c call at event = (s : SessionState) → outcome s c ≡ Some (called s c
 abbrev pub sending : PortAt → SendRequest → Command
 sending at m = Send at.host at.port m.to.host m.to.port m.prio m.len m.seed
 
--- a command is of one event of the world at most: it makes no map, no routes, no installation and no settle, and is none
--- of the two hosts that restart
+-- a command is of one event of the world at most, and needs nothing else: it takes no walk, it makes no map, no
+-- routes, no installation and no settle, and is none of the two hosts that restart
 abbrev pub IsOneEvent : Command → Type 0
+IsOneEvent (Walk host walk) = ⊥
 IsOneEvent (Map host depth tries) = ⊥
 IsOneEvent (Circuit host depth) = ⊥
 IsOneEvent Routes = ⊥

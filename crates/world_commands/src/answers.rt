@@ -1,6 +1,7 @@
 //! One event of a client, and the text of what it was answered.
 
 ghost use Rattle.std.specs.Prelude.{◌≡◌, length, IfOk, IfErr};
+ghost use Rattle.cable_history.specs.Later.{IsLater};
 ghost use Rattle.world_defs.specs.World.{fabric_of};
 ghost use Rattle.world_defs.specs.declared.effect.Effect.TheVariants.{Said as SaidSo};
 ghost use Rattle.run_defs.specs.Outcome.{client_lines};
@@ -34,7 +35,7 @@ pub(crate) fn call(
     requires given { IsGiven w.old event }
     ensures done { (c : Command) → IsCall c call at event → IfOk result (λ p. IsDone c w.old w.new p) }
     ensures err { (c : Command) → IsCall c call at event → IfErr result (λ e. IsLeft c w.old w.new e) }
-    ensures fabric { fabric_of w.new ≡ fabric_of w.old }
+    ensures cables { IsLater w.old.links.cables w.new.links.cables }
 {
     w.moment();
     let Ok(effect) = w.step(alloc, event) else {

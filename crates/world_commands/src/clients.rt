@@ -1,7 +1,8 @@
 //! The calls of clients, each one event. Where memory runs out, nothing of a call was done and it isn't refused, or all
 //! of it was done but its line.
 
-ghost use Rattle.std.specs.Prelude.{◌≡◌, ◌≤◌, IfOk, IfErr};
+ghost use Rattle.std.specs.Prelude.{◌≤◌, IfOk, IfErr};
+ghost use Rattle.cable_history.specs.Later.{IsLater};
 ghost use Rattle.world_defs.specs.World.{fabric_of};
 ghost use Rattle.run_defs.specs.declared.command.Command.TheVariants.{Begin, Close, Poll, Provide};
 ghost use Rattle.fab_report.specs.There.{IsHost};
@@ -29,7 +30,7 @@ pub fn open(
     requires port { at.port ≤ 7 }
     ensures done { IfOk result (λ p. IsDone (Begin at.host at.port sends recvs) w.old w.new p) }
     ensures err { IfErr result (λ e. IsLeft (Begin at.host at.port sends recvs) w.old w.new e) }
-    ensures fabric { fabric_of w.new ≡ fabric_of w.old }
+    ensures cables { IsLater w.old.links.cables w.new.links.cables }
 {
     w.moment();
     let event = Event::Begin {
@@ -48,7 +49,7 @@ pub fn close(alloc: Global, w: &mut World, at: PortAt) -> Result<Printed, OutOfM
     requires port { at.port ≤ 7 }
     ensures done { IfOk result (λ p. IsDone (Close at.host at.port) w.old w.new p) }
     ensures err { IfErr result (λ e. IsLeft (Close at.host at.port) w.old w.new e) }
-    ensures fabric { fabric_of w.new ≡ fabric_of w.old }
+    ensures cables { IsLater w.old.links.cables w.new.links.cables }
 {
     w.moment();
     let event = Event::Close {
@@ -65,7 +66,7 @@ pub fn poll(alloc: Global, w: &mut World, at: PortAt) -> Result<Printed, OutOfMe
     requires port { at.port ≤ 7 }
     ensures done { IfOk result (λ p. IsDone (Poll at.host at.port) w.old w.new p) }
     ensures err { IfErr result (λ e. IsLeft (Poll at.host at.port) w.old w.new e) }
-    ensures fabric { fabric_of w.new ≡ fabric_of w.old }
+    ensures cables { IsLater w.old.links.cables w.new.links.cables }
 {
     w.moment();
     let event = Event::Poll {
@@ -88,7 +89,7 @@ pub fn provide(
     requires port { at.port ≤ 7 }
     ensures done { IfOk result (λ p. IsDone (Provide at.host at.port size prio) w.old w.new p) }
     ensures err { IfErr result (λ e. IsLeft (Provide at.host at.port size prio) w.old w.new e) }
-    ensures fabric { fabric_of w.new ≡ fabric_of w.old }
+    ensures cables { IsLater w.old.links.cables w.new.links.cables }
 {
     w.moment();
     let event = Event::Provide {
@@ -115,7 +116,7 @@ pub fn send(
     requires prio { m.prio ≤ 1 }
     ensures done { IfOk result (λ p. IsDone (sending at m) w.old w.new p) }
     ensures err { IfErr result (λ e. IsLeft (sending at m) w.old w.new e) }
-    ensures fabric { fabric_of w.new ≡ fabric_of w.old }
+    ensures cables { IsLater w.old.links.cables w.new.links.cables }
 {
     w.moment();
     let event = Event::Send {

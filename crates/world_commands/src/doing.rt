@@ -1,7 +1,7 @@
-//! Every command of one event at most.
+//! Every command of one event at most, but for a walk.
 
-ghost use Rattle.std.specs.Prelude.{◌≡◌, IfOk, IfErr};
-ghost use Rattle.link_defs.specs.Links.{empty_links};
+ghost use Rattle.std.specs.Prelude.{IfOk, IfErr};
+ghost use Rattle.cable_history.specs.Later.{IsLater};
 ghost use Rattle.world_defs.specs.World.{fabric_of};
 ghost use Rattle.fab_script.specs.Ranges.{IsCommandOf};
 ghost use Rattle.world_commands.specs.Cut.{IsLeft};
@@ -12,32 +12,23 @@ use crate::out_of_memory::OutOfMemory;
 use crate::places::tokens;
 use crate::requests::{PortAt, SendRequest};
 use crate::stepping::step;
-use crate::telling::{finish, plan, walk};
+use crate::telling::{finish, plan};
 use fab_report::Printed;
 use fab_world::World;
-use link_model::Links;
 use run_defs::Command;
 use std::alloc::Global;
 
-/// Does a command of one event at most. Where memory runs out, nothing of it was done and it isn't refused, or all of
-/// it was done but its line.
+/// Does a command of one event at most, which is no walk: that needs links of its own. Where memory runs out, nothing of
+/// it was done and it isn't refused, or all of it was done but its line.
 #[tactic(auto, using(crate::proofs::Done::done_as, crate::proofs::Cut::left_as))]
-pub fn do_one(
-    alloc: Global,
-    w: &mut World,
-    links: &mut Links,
-    c: &Command,
-) -> Result<Printed, OutOfMemory>
+pub fn do_one(alloc: Global, w: &mut World, c: &Command) -> Result<Printed, OutOfMemory>
     requires one_event { IsOneEvent c.now }
     requires command { IsCommandOf (fabric_of w.old) c.now }
-    requires links { links.old ≡ empty_links (fabric_of w.old) }
     ensures done { IfOk result (λ p. IsDone c.now w.old w.new p) }
     ensures err { IfErr result (λ e. IsLeft c.now w.old w.new e) }
-    ensures links { links.new ≡ links.old }
-    ensures fabric { fabric_of w.new ≡ fabric_of w.old }
+    ensures cables { IsLater w.old.links.cables w.new.links.cables }
 {
     match c {
-        Command::Walk { host, walk: taken } => walk(alloc, w, links, *host, taken.turns()),
         Command::Plan { ahead, kind } => plan(alloc, w, *ahead, *kind),
         Command::Step(line) => step(alloc, w, *line),
         Command::Finish => finish(alloc, w),
@@ -55,7 +46,7 @@ fn do_port(alloc: Global, w: &mut World, c: &Command) -> Result<Printed, OutOfMe
     requires command { IsCommandOf (fabric_of w.old) c.now }
     ensures done { IfOk result (λ p. IsDone c.now w.old w.new p) }
     ensures err { IfErr result (λ e. IsLeft c.now w.old w.new e) }
-    ensures fabric { fabric_of w.new ≡ fabric_of w.old }
+    ensures cables { IsLater w.old.links.cables w.new.links.cables }
 {
     match c {
         Command::Begin {
@@ -77,7 +68,7 @@ fn do_message(alloc: Global, w: &mut World, c: &Command) -> Result<Printed, OutO
     requires command { IsCommandOf (fabric_of w.old) c.now }
     ensures done { IfOk result (λ p. IsDone c.now w.old w.new p) }
     ensures err { IfErr result (λ e. IsLeft c.now w.old w.new e) }
-    ensures fabric { fabric_of w.new ≡ fabric_of w.old }
+    ensures cables { IsLater w.old.links.cables w.new.links.cables }
 {
     match c {
         Command::Provide {

@@ -1,9 +1,9 @@
 //! The commands that a world alone is needed for: at most one event each, and the text of what came of it.
 //!
 //! It drives nothing: a map, an installation and a settle are many events, and stand above; of an installation it has
-//! the text alone. `specs/Done.antt` says
-//! what it is for a command to be done over a world; `specs/Outcome.antt` of `run_defs` says what each command prints
-//! and leaves.
+//! the text alone. `specs/Done.antt` says what it is for a command to be done over a world; `specs/Outcome.antt` of
+//! `run_defs` says what each command prints and leaves. An event may pull cables: a line after it has the names of
+//! before, since hosts and switches stay.
 //!
 //! ```text
 //!   walk                     a packet, alone in links of its own --> where it ends
@@ -23,7 +23,7 @@
 //! | `places` | where each token of a port is |
 //! | `stepping` | a single event, in a report's words |
 //! | `telling` | a walk, a plan, and the end |
-//! | `doing` | every command of these |
+//! | `doing` | every command of these but a walk |
 //! | `duo_events` | one event of the two hosts that restart, which are apart from the world |
 //! | `tables` | what an installation prints |
 #![tactic(auto)]

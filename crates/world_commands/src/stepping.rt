@@ -2,6 +2,7 @@
 
 ghost use Rattle.std.specs.Prelude.{◌≡◌, ◌∷◌, [], IfOk, IfErr, IfSome, IsTrue, OnOk};
 ghost use Rattle.net_defs.specs.Network.{has_vertex};
+ghost use Rattle.cable_history.specs.Later.{IsLater};
 ghost use Rattle.world_defs.specs.Step.{step};
 ghost use Rattle.world_defs.specs.World.{fabric_of};
 ghost use Rattle.run_defs.specs.Outcome.{event_of, named_by_tail, words_of};
@@ -30,7 +31,7 @@ pub fn step(alloc: Global, w: &mut World, line: StepLine) -> Result<Printed, Out
     requires { IsStepOf (fabric_of w.old) line }
     ensures done { IfOk result (λ p. IsDone (StepCommand line) w.old w.new p) }
     ensures err { IfErr result (λ e. IsLeft (StepCommand line) w.old w.new e) }
-    ensures fabric { fabric_of w.new ≡ fabric_of w.old }
+    ensures cables { IsLater w.old.links.cables w.new.links.cables }
 {
     match event_of(w, line) {
         Some(event) => event_text(alloc, w, event),
@@ -70,7 +71,7 @@ fn event_text(alloc: Global, w: &mut World, event: Event) -> Result<Printed, Out
         (OneLine (Step (words_of (step w.old event).1 (step w.old event).0)) ∷ [])) }
     ensures after { OnOk result (w.new ≡ (step w.old event).1) }
     ensures err { IfErr result (IsEventLeft event w.old w.new) }
-    ensures fabric { fabric_of w.new ≡ fabric_of w.old }
+    ensures cables { IsLater w.old.links.cables w.new.links.cables }
 {
     w.moment();
     let Ok(effect) = w.step(alloc, event) else {

@@ -2,6 +2,7 @@
 
 ghost use Rattle.std.specs.Prelude.{◌≡◌, ◌≤◌, length, All, IfOk, IfErr};
 ghost use Rattle.net_defs.specs.Turn.{IsTurn};
+ghost use Rattle.cable_history.specs.Later.{IsLater};
 ghost use Rattle.link_defs.specs.Links.{empty_links};
 ghost use Rattle.world_defs.specs.World.{fabric_of};
 ghost use Rattle.run_defs.specs.Outcome.{fault_of};
@@ -48,7 +49,7 @@ pub fn plan(
     requires { 1 ≤ ahead }
     ensures done { IfOk result (λ p. IsDone (Plan ahead kind) w.old w.new p) }
     ensures err { IfErr result (λ e. IsLeft (Plan ahead kind) w.old w.new e) }
-    ensures fabric { fabric_of w.new ≡ fabric_of w.old }
+    ensures cables { IsLater w.old.links.cables w.new.links.cables }
 {
     let Ok(number) = w.plan(ahead, fault_of(kind)) else {
         return Err(OutOfMemory::InDoing);

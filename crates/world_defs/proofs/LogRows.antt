@@ -170,20 +170,20 @@ part_try-row k staged mapper dst part w =
 pub tries-row : {A : Type 0} (Q : Event → Type 0) (is_found : A → Bool) (nothing : A) (one : WorldState → Log (Tried A)) → ((v : WorldState) → Rows Q v (one v)) → (k : ℕ) (w : WorldState) → Rows Q w (tries is_found nothing one k w)
 tries-row {A = A} Q is_found nothing one all k w = up_to-row {A = Tried A} Q (λ t u. record u { harmed = t.harmed && u.harmed }) (record { found = nothing; harmed = true }) (λ before t. is_found t.value.found) one all k w
 
-pub ask-row : {Q : Event → Type 0} → AsksBy Q → ((h : ℕ) (walk : List ℤ) (looped : Bool) → Q (Ask h walk looped)) → (mapper k : ℕ) (walk : List ℤ) (w : WorldState) → Rows Q w (ask mapper k walk w)
+pub ask-row : {Q : Event → Type 0} → AsksBy Q → ((h : ℕ) (walk : List ℤ) (looped : Bool) → Q (Ask h walk looped)) → (made mapper k : ℕ) (walk : List ℤ) (w : WorldState) → Rows Q w (ask made mapper k walk w)
 unfolding ask
-ask-row {Q = Q} s asked mapper k walk w =
+ask-row {Q = Q} s asked made mapper k walk w =
     let v : WorldState = after_all w (map GiveUp (addresses w)) in
     let t : Log (Tried (Option ℕ)) = tries is_some None (host_try mapper walk) k v in
     row-both (given_up-row s.give_up w) (row-both (tries-row Q is_some None (host_try mapper walk) (host_try-row s asked mapper walk) k v) (on t.value.harmed t.value.found t.world))
   where
-    on : (harmed : Bool) (o : Option ℕ) (u : WorldState) → Rows Q u (asked_on mapper walk k harmed o u)
+    on : (harmed : Bool) (o : Option ℕ) (u : WorldState) → Rows Q u (asked_on made mapper walk k harmed o u)
     on harmed (Some h) u = row-none
-    on harmed None u = tries-row Q (λ b. b) false (loop_try mapper walk) (loop_try-row s asked mapper walk) k u
+    on harmed None u = row-both (tries-row Q (λ b. b) false (loop_try mapper walk) (loop_try-row s asked mapper walk) k u) row-none
 
-pub asks-row : {Q : Event → Type 0} → AsksBy Q → ((h : ℕ) (walk : List ℤ) (looped : Bool) → Q (Ask h walk looped)) → (mapper k : ℕ) (walks : List (List ℤ)) (w : WorldState) → Rows Q w (asks mapper k walks w)
-asks-row {Q = Q} s asked mapper k walks w =
-    for_each-row Q asked_both (record { entries = []; drowned = 0 }) (λ walk v. told (one_asked walk) (ask mapper k walk v)) (λ walk v. ask-row s asked mapper k walk v) walks w
+pub asks-row : {Q : Event → Type 0} → AsksBy Q → ((h : ℕ) (walk : List ℤ) (looped : Bool) → Q (Ask h walk looped)) → (made mapper k : ℕ) (walks : List (List ℤ)) (w : WorldState) → Rows Q w (asks made mapper k walks w)
+asks-row {Q = Q} s asked made mapper k walks w =
+    for_each-row Q asked_both (record { entries = []; drowned = 0 }) (λ walk v. told (one_asked walk) (ask made mapper k walk v)) (λ walk v. ask-row s asked made mapper k walk v) walks w
 
 parts-row : {Q : Event → Type 0} → AsksBy Q → ((dst part : ℕ) → Q (Part dst part)) → (mapper dst k : ℕ) (ps : List ℕ) (w : WorldState) → Rows Q w (parts mapper dst k ps w)
 parts-row s staged mapper dst k [] w = row-none

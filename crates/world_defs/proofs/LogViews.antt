@@ -4,7 +4,7 @@ use Rattle.net_defs.specs.declared.place.Answer.{Answer}
 use Rattle.world_defs.specs.declared.effect.Effect.{Effect}
 use Rattle.world_defs.specs.Table.{Adoption}
 use Rattle.world_defs.specs.World.{WorldState}
-use Rattle.world_defs.specs.Asking.{loop_answer, number_of, is_harmed, reply_in, returned_in}
+use Rattle.world_defs.specs.Asking.{loop_answer, number_of, is_harmed, is_changed, reply_in, returned_in}
 use Rattle.world_defs.specs.Install.{has_staged_answer, is_acknowledged}
 use Rattle.world_defs.specs.Log.{Log, told, and_do, still}
 use Rattle.world_defs.specs.Logs as log
@@ -101,14 +101,14 @@ pub record Asked : Type 0 where
 abbrev pub asked_to : Log log.Asked → Asked
 asked_to l = record { answer = l.value.answer; drowned = l.value.drowned; world = l.world }
 
-abbrev pub asked_loops : Bool → Tried Bool → Asked
-asked_loops harmed t = record { answer = loop_answer t.found; drowned = not t.found && (harmed || t.harmed); world = t.world }
+abbrev pub asked_loops : ℕ → Bool → Tried Bool → Asked
+asked_loops made harmed t = record { answer = loop_answer t.found; drowned = not t.found && ((harmed || is_changed made t.world) || t.harmed); world = t.world }
 
-abbrev pub asked_hosts : ℕ → List ℤ → ℕ → Bool → WorldState → Option ℕ → Asked
-asked_hosts mapper walk k harmed w o = asked_to (log.asked_on mapper walk k harmed o w)
+abbrev pub asked_hosts : ℕ → ℕ → List ℤ → ℕ → Bool → WorldState → Option ℕ → Asked
+asked_hosts made mapper walk k harmed w o = asked_to (log.asked_on made mapper walk k harmed o w)
 
-abbrev pub ask : ℕ → ℕ → List ℤ → WorldState → Asked
-ask mapper k walk w = asked_to (log.ask mapper k walk w)
+abbrev pub ask : ℕ → ℕ → ℕ → List ℤ → WorldState → Asked
+ask made mapper k walk w = asked_to (log.ask made mapper k walk w)
 
 -- the acknowledgement of a host that was sent a part
 abbrev pub acknowledged : WorldState → ℕ → ℕ → ℕ → Sent → Sent → Tried Bool

@@ -1,14 +1,14 @@
 -- Moments of small worlds: what is sound, lawful, honest and settled there, and what isn't.
-use Rattle.std.proofs.Common.{◌≡◌, ◌<◌, ℕ, zero, suc, true, false, List, [], ◌∷◌, ◌++◌, length, replicate, get_or, Option, Some, None, Result, Ok, Err, refl, sym, ◌∙◌, ap, subst, arith, rules, ◌||◌, nat_eq, if◌then◌else◌}
+use Rattle.std.proofs.Common.{◌≡◌, ◌<◌, ℕ, zero, suc, true, false, List, [], ◌∷◌, ◌++◌, length, replicate, get_or, Option, Some, None, Result, Ok, Err, refl, sym, ◌∙◌, ap, inl, subst, arith, rules, ◌||◌, nat_eq, true≢false, ◌⊎◌, if◌then◌else◌}
 use Rattle.std.specs.Prelude.{ℤ, pos, negsuc, codes, slice_get}
 use Rattle.std.specs.List.{AllByRecursion}
-use Rattle.net_defs.specs.Route.{host_port}
 use Rattle.net_defs.specs.Examples.{two_hosts}
 use Rattle.packet_defs.specs.declared.kind.Kind.{Kind}
 use Rattle.packet_defs.specs.declared.kind.Kind.TheVariants.{Gm}
 use Rattle.packet_defs.specs.declared.host_drop.HostDrop.{HostDrop}
 use Rattle.packet_defs.specs.Host.{body_of}
-use Rattle.link_defs.specs.Kinds.{unrouted}
+use Rattle.cable_history.specs.Crossed.{is_new}
+use Rattle.link_defs.specs.Kinds.{unrouted, is_gm}
 use Rattle.link_defs.specs.Links.{Held, Caught, packet_in}
 use Rattle.net_defs.specs.Dependencies.{IsNext, IsBefore, HasNoCycle}
 use Rattle.net_defs.specs.Dependencies.IsNext.{here, later}
@@ -31,9 +31,9 @@ use Rattle.world_defs.specs.Client.{ClientState, begun, closed, provided_by, sen
 use Rattle.world_defs.specs.World.{new_world, host_count, node_at, client_at}
 use Rattle.world_defs.specs.Step.{lost, was_reset, repeated, held, flipped, replayed, asked, part_staged, planned_strikes, sent_out, injected, advanced, expired, gave_up}
 use Rattle.world_defs.specs.Settled.{IsSettled, IsSettledConnection, IsWaiting}
-use Rattle.world_defs.specs.Settled.IsSettledConnection.{all_acknowledged, no_route, no_route_back, waiting}
+use Rattle.world_defs.specs.Settled.IsSettledConnection.{all_acknowledged, no_route, no_route_back, cut, cut_back, waiting}
 use Rattle.world_defs.specs.Logs.{drain, clear, round_pass, round, settle, sends, host_try, loop_try, ask, part_try, install}
-use Rattle.world_defs.specs.Traffic.{IsLawful, IsLawfulTraffic, IsHonest, IsHonestTraffic, adopted_routes, channels_crossed, channels_ahead, sender_on, sent_on, got_on, taken_on}
+use Rattle.world_defs.specs.Traffic.{IsLawful, IsLawfulTraffic, IsHonest, IsHonestTraffic, adopted_routes, route_channels, is_broken, channels_ahead, sender_on, sent_on, got_on, taken_on}
 use Rattle.world_defs.specs.Sound.{IsSound, IsPrefix, AreOwned, installed_channels}
 use Rattle.world_defs.specs.Examples.{on_its_way, abc_frame, further_on, abc_further_on, spoiled, forged, unserved}
 
@@ -164,7 +164,7 @@ pub frame_is_there : packet_in on_its_way.links 0 ≡ Some abc_frame
 unfolding sends host_try loop_try ask begun closed provided_by sent_by polled_by drain clear hear part_try install to_send packet_for after_sending round_pass round settle lost was_reset repeated held flipped replayed asked part_staged planned_strikes sent_out injected advanced expired gave_up applied
 frame_is_there = refl
 
-way_whole : channels_crossed on_its_way (Some (host_port 0)) (pos 3 ∷ []) ≡ 0 ∷ 3 ∷ []
+way_whole : route_channels on_its_way 0 (pos 3 ∷ []) ≡ 0 ∷ 3 ∷ []
 unfolding sends host_try loop_try ask begun closed provided_by sent_by polled_by drain clear hear part_try install to_send packet_for after_sending round_pass round settle lost was_reset repeated held flipped replayed asked part_staged planned_strikes sent_out injected advanced expired gave_up applied
 way_whole = refl
 
@@ -176,8 +176,25 @@ way_route : slice_get (adopted_routes on_its_way) 0 ≡ Some (record { from = 0;
 unfolding sends host_try loop_try ask begun closed provided_by sent_by polled_by drain clear hear part_try install to_send packet_for after_sending round_pass round settle lost was_reset repeated held flipped replayed asked part_staged planned_strikes sent_out injected advanced expired gave_up applied
 way_route = refl
 
+way_accepted : is_new on_its_way.links.cables 0 ≡ false
+unfolding sends host_try loop_try ask begun closed provided_by sent_by polled_by drain clear hear part_try install to_send packet_for after_sending round_pass round settle lost was_reset repeated held flipped replayed asked part_staged planned_strikes sent_out injected advanced expired gave_up applied
+way_accepted = refl
+
+frame_is_gm : is_gm abc_frame.wire ≡ true
+frame_is_gm = refl
+
 frame_lawful : IsLawful on_its_way 0 abc_frame
-frame_lawful = record { unmarked = refl; place = 0; route = record { from = 0; to = 1; walk = pos 3 ∷ [] }; behind = []; there = way_route; ends_it = way_whole ∙ sym way_ahead }
+frame_lawful = record {
+  unmarked = refl;
+  accepted = way_accepted;
+  place = 0;
+  route = record { from = 0; to = 1; walk = pos 3 ∷ [] };
+  behind = [];
+  beyond = [];
+  there = way_route;
+  within = way_whole ∙ sym (ap (λ cs. cs ++ []) way_ahead);
+  stopped = inl frame_is_gm;
+}
 
 way_channels_hold : on_its_way.links.channels ≡ Some abc_frame ∷ None ∷ None ∷ None ∷ []
 unfolding sends host_try loop_try ask begun closed provided_by sent_by polled_by drain clear hear part_try install to_send packet_for after_sending round_pass round settle lost was_reset repeated held flipped replayed asked part_staged planned_strikes sent_out injected advanced expired gave_up applied
@@ -201,7 +218,7 @@ pub frame_is_further_on : packet_in further_on.links 3 ≡ Some abc_further_on
 unfolding sends host_try loop_try ask begun closed provided_by sent_by polled_by drain clear hear part_try install to_send packet_for after_sending round_pass round settle lost was_reset repeated held flipped replayed asked part_staged planned_strikes sent_out injected advanced expired gave_up applied
 frame_is_further_on = refl
 
-further_whole : channels_crossed further_on (Some (host_port 0)) (pos 3 ∷ []) ≡ 0 ∷ 3 ∷ []
+further_whole : route_channels further_on 0 (pos 3 ∷ []) ≡ 0 ∷ 3 ∷ []
 unfolding sends host_try loop_try ask begun closed provided_by sent_by polled_by drain clear hear part_try install to_send packet_for after_sending round_pass round settle lost was_reset repeated held flipped replayed asked part_staged planned_strikes sent_out injected advanced expired gave_up applied
 further_whole = refl
 
@@ -213,8 +230,25 @@ further_route : slice_get (adopted_routes further_on) 0 ≡ Some (record { from 
 unfolding sends host_try loop_try ask begun closed provided_by sent_by polled_by drain clear hear part_try install to_send packet_for after_sending round_pass round settle lost was_reset repeated held flipped replayed asked part_staged planned_strikes sent_out injected advanced expired gave_up applied
 further_route = refl
 
+further_accepted : is_new further_on.links.cables 3 ≡ false
+unfolding sends host_try loop_try ask begun closed provided_by sent_by polled_by drain clear hear part_try install to_send packet_for after_sending round_pass round settle lost was_reset repeated held flipped replayed asked part_staged planned_strikes sent_out injected advanced expired gave_up applied
+further_accepted = refl
+
+further_is_gm : is_gm abc_further_on.wire ≡ true
+further_is_gm = refl
+
 pub further_is_lawful : IsLawful further_on 3 abc_further_on
-further_is_lawful = record { unmarked = refl; place = 0; route = record { from = 0; to = 1; walk = pos 3 ∷ [] }; behind = 0 ∷ []; there = further_route; ends_it = further_whole ∙ sym (ap (λ cs. 0 ∷ cs) further_ahead) }
+further_is_lawful = record {
+  unmarked = refl;
+  accepted = further_accepted;
+  place = 0;
+  route = record { from = 0; to = 1; walk = pos 3 ∷ [] };
+  behind = 0 ∷ [];
+  beyond = [];
+  there = further_route;
+  within = further_whole ∙ sym (ap (λ cs. 0 ∷ (cs ++ [])) further_ahead);
+  stopped = inl further_is_gm;
+}
 
 spoiled_frame : packet_in spoiled.links 0 ≡ Some (record { wire = 128 ∷ 4 ∷ 8 ∷ frame_bytes abc (codes "ABC") ++ 146 ∷ []; marked = true; born = 1 })
 unfolding sends host_try loop_try ask begun closed provided_by sent_by polled_by drain clear hear part_try install to_send packet_for after_sending round_pass round settle lost was_reset repeated held flipped replayed asked part_staged planned_strikes sent_out injected advanced expired gave_up applied
@@ -365,6 +399,14 @@ way_first : whole_below (sent_on on_its_way (connection 0 1 0)) (sender_on on_it
 unfolding sends host_try loop_try ask begun closed provided_by sent_by polled_by drain clear hear part_try install to_send packet_for after_sending round_pass round settle lost was_reset repeated held flipped replayed asked part_staged planned_strikes sent_out injected advanced expired gave_up applied
 way_first = refl
 
+way_unbroken : is_broken on_its_way 0 1 ≡ false
+unfolding sends host_try loop_try ask begun closed provided_by sent_by polled_by drain clear hear part_try install to_send packet_for after_sending round_pass round settle lost was_reset repeated held flipped replayed asked part_staged planned_strikes sent_out injected advanced expired gave_up applied
+way_unbroken = refl
+
+way_unbroken_back : is_broken on_its_way 1 0 ≡ false
+unfolding sends host_try loop_try ask begun closed provided_by sent_by polled_by drain clear hear part_try install to_send packet_for after_sending round_pass round settle lost was_reset repeated held flipped replayed asked part_staged planned_strikes sent_out injected advanced expired gave_up applied
+way_unbroken_back = refl
+
 zero_one : (a b : ℕ) → a ≡ 0 → b ≡ 1 → a ≡ b → ⊥
 zero_one a b e f g = omega arith
 
@@ -384,6 +426,8 @@ way_is_not_settled s = by (s.connections (connection 0 1 0) (subst (λ n. 0 < n)
     by (all_acknowledged e) = zero_one _ _ way_base way_next e
     by (no_route e) = no_walk _ _ way_there e
     by (no_route_back e) = no_walk _ _ way_back e
+    by (cut e) = absurd (true≢false (sym e ∙ way_unbroken))
+    by (cut_back e) = absurd (true≢false (sym e ∙ way_unbroken_back))
     by (waiting q) =
         let at_first : q.place ≡ 0 = q.first ∙ way_first in
         let there : slice_get (message (codes "ABC") ∷ []) 0 ≡ Some q.message = subst (λ ms. slice_get ms 0 ≡ Some q.message) way_sent (subst (λ k. slice_get (sent_on on_its_way (connection 0 1 0)) k ≡ Some q.message) at_first q.there) in

@@ -2,25 +2,27 @@
 use Rattle.std.proofs.Common.{◌≡◌, ◌+◌, ℕ, Bool, true, false, set, nat_eq, Option, Some, None, refl, sym, subst, if◌then◌else◌}
 use Rattle.std.specs.Map.{lookup}
 use Rattle.link_defs.specs.Links.{LinkState}
-use Rattle.link_defs.specs.Step.{Step, Lose as LoseLinks, Repeat as RepeatLinks, Hold as HoldLinks, Flip as FlipLinks, stepped}
+use Rattle.link_defs.specs.Step.{Step, Lose as LoseLinks, Repeat as RepeatLinks, Hold as HoldLinks, Flip as FlipLinks, Pull as PullLinks, stepped}
 use Rattle.world_defs.specs.declared.fault.Fault.{Fault}
-use Rattle.world_defs.specs.declared.fault.Fault.TheVariants.{Lose as LoseFault, Repeat as RepeatFault, Hold as HoldFault, Flip as FlipFault}
+use Rattle.world_defs.specs.declared.fault.Fault.TheVariants.{Lose as LoseFault, Repeat as RepeatFault, Hold as HoldFault, Flip as FlipFault, Pull as PullFault}
 use Rattle.world_defs.specs.Node.{Outgoing, after_sending}
 use Rattle.world_defs.specs.World.{WorldState, node_at, without_fault}
 use Rattle.world_defs.specs.Step.{fault_on, is_harm, struck_by, fault_strikes, planned_strikes, sent_out}
 
--- the step of the links that a fault of a channel's packet is
+-- the step of the links that a fault is
 abbrev pub fault_step : ℕ → Fault → Step
 fault_step c LoseFault = LoseLinks c
 fault_step c RepeatFault = RepeatLinks c
 fault_step c HoldFault = HoldLinks c
 fault_step c (FlipFault bit pattern) = FlipLinks c bit pattern
+fault_step c (PullFault at) = PullLinks at
 
 pub fault_on-step : (s : LinkState) (c : ℕ) (f : Fault) → (fault_on s c f).1 ≡ stepped s (fault_step c f)
 fault_on-step s c LoseFault = refl
 fault_on-step s c RepeatFault = refl
 fault_on-step s c HoldFault = refl
 fault_on-step s c (FlipFault bit pattern) = refl
+fault_on-step s c (PullFault at) = refl
 
 -- What the fault that was planned for the last injection makes of a world: there was none, it wasn't possible, or it struck.
 pub data Strike (w : WorldState) (c : ℕ) : WorldState → Type 0 where

@@ -1,6 +1,7 @@
 -- Each event as one of a few changes of a world: it rests, the links make a step, a packet is dropped or arrives, a host changes by itself, a packet is injected, or a client calls.
 use Rattle.std.proofs.Common.{◌≡◌, ◌<◌, ◌+◌, ℕ, Bool, true, false, ◌||◌, ℤ, List, nat_lt, nat_le, Option, Some, None, is_some, refl, ap, ◌∙◌, subst, arith, if◌then◌else◌}
 use Rattle.std.proofs.lemmas.Bool.Decides.{nat_tests}
+use Rattle.net_defs.specs.declared.vertex.End.{End}
 use Rattle.net_defs.specs.Route.{host_port}
 use Rattle.cable_history.specs.Crossed.{leaving}
 use Rattle.net_defs.proofs.Growing.{no_some}
@@ -13,11 +14,11 @@ use Rattle.link_defs.specs.declared.replayed.Replayed.{Replayed}
 use Rattle.link_defs.specs.declared.replayed.Replayed.TheVariants.{Back, Busy, Unknown}
 use Rattle.link_defs.specs.Links.{Held, LinkState, packet_in, with_packet, emptied}
 use Rattle.link_defs.specs.Advance.{course, entered, gone_on, advance_of}
-use Rattle.link_defs.specs.Fault.{lose, reset, repeat, hold, flip, replay}
-use Rattle.link_defs.specs.Step.{Step, Advance as AdvanceLinks, Lose as LoseLinks, Reset as ResetLinks, Repeat as RepeatLinks, Hold as HoldLinks, Flip as FlipLinks, Replay as ReplayLinks, stepped}
+use Rattle.link_defs.specs.Fault.{lose, reset, repeat, hold, flip, replay, pull, plug}
+use Rattle.link_defs.specs.Step.{Step, Advance as AdvanceLinks, Lose as LoseLinks, Reset as ResetLinks, Repeat as RepeatLinks, Hold as HoldLinks, Flip as FlipLinks, Replay as ReplayLinks, Pull as PullLinks, Plug as PlugLinks, stepped}
 use Rattle.mapping_defs.specs.Mapping.{RoutePart}
 use Rattle.world_defs.specs.declared.event.Event.{Event}
-use Rattle.world_defs.specs.declared.event.Event.TheVariants.{Ask, Part, Inject, Advance, Lose, Repeat, Hold, Flip, Replay, Reset, Expire, GiveUp, Begin, Close, Provide, Send, Poll, Revoke}
+use Rattle.world_defs.specs.declared.event.Event.TheVariants.{Ask, Part, Inject, Advance, Lose, Repeat, Hold, Flip, Replay, Reset, Expire, GiveUp, Begin, Close, Provide, Send, Poll, Revoke, Pull, Plug}
 use Rattle.world_defs.specs.declared.effect.Effect.{Effect}
 use Rattle.world_defs.specs.declared.effect.Effect.TheVariants.{Idle, Injected, Moved as MovedTo, Blocked, Arrived, Dropped, Lost, Reset as WasReset, Flipped, Expired, GaveUp, Repeated, Held as WasHeld, Replayed as ReplayedTo, Staged, Said}
 use Rattle.world_defs.specs.declared.effect.Said.TheVariants.{Done}
@@ -29,8 +30,8 @@ use Rattle.world_defs.specs.Table.{Adoption, part_for, route_of}
 use Rattle.world_defs.specs.Node.{NodeState, StagedProbe, StagedPart, Outgoing, to_send, has_staged, given_up, node_expired, unacknowledged_to}
 use Rattle.world_defs.specs.Hearing.{hear}
 use Rattle.world_defs.specs.Client.{Called, begun, closed, provided_by, sent_by, polled_by}
-use Rattle.world_defs.specs.World.{WorldState, host_count, last_count, counted, node_at, with_node, with_links, client_at, with_drop}
-use Rattle.world_defs.specs.Step.{of_links, of_limbo, of_replay, lost, was_reset, repeated, held, flipped, replayed, asked, stage_at, stage_part, part_staged, planned_strikes, sent_out, inject_one, inject_into, injected, cause_at_switch, cause_at_host, arrived, advanced_by, advanced, expired, gave_up, gives_up_epoch, revoke_of, revoked, of_call, wanted, step}
+use Rattle.world_defs.specs.World.{WorldState, host_count, last_count, counted, node_at, with_node, with_links, client_at, with_drop, keeps_out}
+use Rattle.world_defs.specs.Step.{of_links, of_limbo, of_replay, lost, was_reset, repeated, held, flipped, replayed, pulled, plugged, asked, stage_at, stage_part, part_staged, planned_strikes, sent_out, inject_one, inject_into, injected, cause_at_switch, cause_at_host, arrived, advanced_by, advanced, expired, gave_up, gives_up_epoch, revoke_of, revoked, of_call, wanted, step}
 
 -- The step of the links that an event made, with its effect.
 pub data LinksChange (w : WorldState) : Event → Effect → Step → Type 0 where
@@ -42,6 +43,8 @@ pub data LinksChange (w : WorldState) : Event → Effect → Step → Type 0 whe
   holds : {c serial : ℕ} → (hold w.links c).0 ≡ Some serial → LinksChange w (Hold c) (WasHeld serial) (HoldLinks c)
   flips : {c bit pattern : ℕ} → (flip w.links c bit pattern).0 ≡ true → LinksChange w (Flip c bit pattern) Flipped (FlipLinks c bit pattern)
   replays : {serial c : ℕ} → (replay w.links serial).0 ≡ Back c → LinksChange w (Replay serial) (ReplayedTo c) (ReplayLinks serial)
+  pulls : {at : End} → (pull w.links at).0 ≡ true → LinksChange w (Pull at) (Said Done) (PullLinks at)
+  plugs : {a b : End} → (plug w.links a b).0 ≡ true → LinksChange w (Plug a b) (Said Done) (PlugLinks a b)
 
 -- The host that an event changed by itself, with its effect.
 pub data HostChange (w : WorldState) : Event → Effect → ℕ → NodeState → Type 0 where
@@ -77,7 +80,7 @@ pub data Change (w : WorldState) : Event → Effect × WorldState → Type 0 whe
       → ArrivalChange w h (hear h (host_count w) (node_at w h) packet.wire).0 x count
       → Change w (Advance c) (x, record (with_node (with_links w (stepped w.links (AdvanceLinks c))) h (hear h (host_count w) (node_at w h) packet.wire).1) { dropped = count })
   host : {e : Event} {x : Effect} {h : ℕ} {m : NodeState} → HostChange w e x h m → Change w e (x, with_node w h m)
-  injects : {h : ℕ} (c : ℕ) (out : Outgoing) → leaving w.links.cables (host_port h) ≡ Some c → to_send h (node_at w h) ≡ Some out → packet_in w.links c ≡ None → w.injected < last_count
+  injects : {h : ℕ} (c : ℕ) (out : Outgoing) → leaving w.links.cables (host_port h) ≡ Some c → to_send h (node_at w h) ≡ Some out → packet_in w.links c ≡ None → w.injected < last_count → keeps_out w c out ≡ false
       → Change w (Inject h) (Injected (w.injected + 1), planned_strikes (sent_out w h c out) c)
   calls : {e : Event} {h port : ℕ} {call : Called} → CallChange w e h port call → Change w e (of_call w h port call)
 
@@ -150,12 +153,14 @@ revoke_of-change w h (Some a) d = Change.host (HostChange.revokes a d)
 -- an injection
 inject_one-change : (w : WorldState) (h c : ℕ) (o : Option Outgoing) → leaving w.links.cables (host_port h) ≡ Some c → to_send h (node_at w h) ≡ o → Change w (Inject h) (inject_one w h c o)
 inject_one-change w h c None d e = Change.idle
-inject_one-change w h c (Some out) d e = by (is_some (packet_in w.links c)) (nat_le last_count w.injected) refl refl
+inject_one-change w h c (Some out) d e = by (is_some (packet_in w.links c)) (nat_le last_count w.injected) (keeps_out w c out) refl refl refl
   where
-    by : (a b : Bool) → is_some (packet_in w.links c) ≡ a → nat_le last_count w.injected ≡ b → Change w (Inject h) (if a || b then (Idle, w) else (Injected (w.injected + 1), planned_strikes (sent_out w h c out) c))
-    by true b f g = Change.idle
-    by false true f g = Change.idle
-    by false false f g = Change.injects c out d e (no_some (packet_in w.links c) f) (grind (arith, nat_tests))
+    by : (a b k : Bool) → is_some (packet_in w.links c) ≡ a → nat_le last_count w.injected ≡ b → keeps_out w c out ≡ k
+        → Change w (Inject h) (if a || b || k then (Idle, w) else (Injected (w.injected + 1), planned_strikes (sent_out w h c out) c))
+    by true b k f g o = Change.idle
+    by false true k f g o = Change.idle
+    by false false true f g o = Change.idle
+    by false false false f g o = Change.injects c out d e (no_some (packet_in w.links c) f) (grind (arith, nat_tests)) o
 
 inject_into-change : (w : WorldState) (h : ℕ) (o : Option ℕ) → leaving w.links.cables (host_port h) ≡ o → Change w (Inject h) (inject_into w h o)
 inject_into-change w h None d = Change.idle
@@ -163,7 +168,7 @@ inject_into-change w h (Some c) d = inject_one-change w h c (to_send h (node_at 
 
 -- every event
 pub view : (w : WorldState) (e : Event) → Change w e (step w e)
-unfolding lost was_reset repeated held flipped replayed asked part_staged injected advanced expired gave_up revoked
+unfolding lost was_reset repeated held flipped replayed pulled plugged asked part_staged injected advanced expired gave_up revoked
 view w (Ask h walk looped) = Change.host HostChange.asks
 view w (Part dst part) = stage_part-change w dst part w.adopted refl
 view w (Inject h) = inject_into-change w h (leaving w.links.cables (host_port h)) refl
@@ -182,3 +187,5 @@ view w (Provide h port size prio) = Change.calls CallChange.provides
 view w (Send h port dest dport prio len seed) = Change.calls CallChange.accepts
 view w (Poll h port) = Change.calls CallChange.polls
 view w (Revoke h) = revoke_of-change w h w.adopted refl
+view w (Pull at) = of_links-change w (Pull at) (Said Done) (pull w.links at) (λ k. Change.links (LinksChange.pulls k))
+view w (Plug a b) = of_links-change w (Plug a b) (Said Done) (plug w.links a b) (λ k. Change.links (LinksChange.plugs k))

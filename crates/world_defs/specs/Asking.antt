@@ -45,6 +45,10 @@ number_of _ = None
 abbrev pub is_harmed : Bool → WorldState → WorldState → Bool
 is_harmed used before w = used || nat_lt before.harmed w.harmed
 
+-- cables came or went since so many changes
+abbrev pub is_changed : ℕ → WorldState → Bool
+is_changed made w = nat_lt made w.links.cables.changes
+
 -- the reply to the probe of a number, where there was one
 abbrev pub reply_in : ℕ → Option ℕ → List Effect → Option ℕ
 reply_in mapper None xs = None

@@ -34,7 +34,7 @@ walks_of_setup = [] ∷ map (λ t. t ∷ []) onward
 
 -- the 31 answers to host 0, with one try each
 abbrev pub setup_map : Log AskedAll
-setup_map = asks 0 1 walks_of_setup (new_world two_hosts)
+setup_map = asks 0 0 1 walks_of_setup (new_world two_hosts)
 
 -- the routes of the two hosts: from port 4 of the switch to port 7, and back
 abbrev pub setup_routes : List Route

@@ -1,5 +1,7 @@
 pub mod Asking
+pub mod Cables
 pub mod Client
+pub mod Cuts
 pub mod Drain
 pub mod EightBits
 pub mod Examples

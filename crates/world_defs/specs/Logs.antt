@@ -12,7 +12,8 @@ use Rattle.world_defs.specs.Table.{Adoption}
 use Rattle.world_defs.specs.World.{WorldState, addresses}
 use Rattle.world_defs.specs.Drain.{changes, channels_of, resets_of}
 use Rattle.world_defs.specs.Settle.{expiries, serials, is_quiet, pass_bound, round_bound, is_last_round}
-use Rattle.world_defs.specs.Asking.{loop_answer, is_used_up, number_of, is_harmed, probed_host, reply_in, returned_in}
+use Rattle.world_defs.specs.Asking.{loop_answer, is_used_up, number_of, is_harmed, is_changed, probed_host, reply_in}
+use Rattle.world_defs.specs.Asking.{returned_in}
 use Rattle.world_defs.specs.Install.{has_staged_answer, is_acknowledged, parts_of}
 use Rattle.world_defs.specs.Log.{Log, still, happen, happen_all, told, after_events, and_do, for_each, up_to}
 
@@ -142,20 +143,22 @@ pub record Asked : Type 0 where
   pub answer : Answer
   pub drowned : Bool
 
--- what an ask comes to after its loopback probes, where a fault met its host probes or didn't
+-- what an ask comes to after its loopback probes, where it may drown besides, or may not
 abbrev pub looped : Bool → Tried Bool → Asked
-looped harmed t = record { answer = loop_answer t.found; drowned = not t.found && (harmed || t.harmed) }
+looped drowns t = record { answer = loop_answer t.found; drowned = not t.found && (drowns || t.harmed) }
 
--- what an ask comes to after its host probes: a host, or what the loopback probes find
-abbrev pub asked_on : ℕ → List ℤ → ℕ → Bool → Option ℕ → WorldState → Log Asked
-asked_on mapper walk k harmed (Some h) w = still (record { answer = Host h; drowned = false }) w
-asked_on mapper walk k harmed None w = told (looped harmed) (tries (λ b. b) false (loop_try mapper walk) k w)
+-- what an ask comes to after its host probes, where a fault met them or didn't: a host, or what the loopback probes
+-- find; it drowns too where cables went since the mapper was made
+abbrev pub asked_on : ℕ → ℕ → List ℤ → ℕ → Bool → Option ℕ → WorldState → Log Asked
+asked_on made mapper walk k harmed (Some h) w = still (record { answer = Host h; drowned = false }) w
+asked_on made mapper walk k harmed None w = and_do (tries (λ b. b) false (loop_try mapper walk) k w) (λ t v.
+    still (looped (harmed || is_changed made v) t) v)
 
--- An ask: every host gives up what it staged; up to so many host probes, to the first reply; without one, up to so many
--- loopback probes, to the first that returns.
-unfoldable pub ask : ℕ → ℕ → List ℤ → WorldState → Log Asked
-ask mapper k walk w = after_events (map GiveUp (addresses w)) (λ v.
-    and_do (tries is_some None (host_try mapper walk) k v) (λ t. asked_on mapper walk k t.harmed t.found)) w
+-- An ask of a mapper that was made after so many changes of cables: every host gives up what it staged; up to so many
+-- host probes, to the first reply; without one, up to so many loopback probes, to the first that returns.
+unfoldable pub ask : ℕ → ℕ → ℕ → List ℤ → WorldState → Log Asked
+ask made mapper k walk w = after_events (map GiveUp (addresses w)) (λ v.
+    and_do (tries is_some None (host_try mapper walk) k v) (λ t. asked_on made mapper walk k t.harmed t.found)) w
 
 -- entries of asks, and how many drowned
 pub record AskedAll : Type 0 where
@@ -173,9 +176,9 @@ abbrev pub asked_both : AskedAll → AskedAll → AskedAll
 asked_both a b = record { entries = a.entries ++ b.entries; drowned = a.drowned + b.drowned }
 
 -- asks of these walks, in order
-abbrev pub asks : ℕ → ℕ → List (List ℤ) → WorldState → Log AskedAll
-asks mapper k = for_each asked_both (record { entries = []; drowned = 0 })
-    (λ walk w. told (one_asked walk) (ask mapper k walk w))
+abbrev pub asks : ℕ → ℕ → ℕ → List (List ℤ) → WorldState → Log AskedAll
+asks made mapper k = for_each asked_both (record { entries = []; drowned = 0 })
+    (λ walk w. told (one_asked walk) (ask made mapper k walk w))
 
 -- one try of a part: the part alone, and then the acknowledgement of its host, where that took it
 unfoldable pub part_try : ℕ → ℕ → ℕ → WorldState → Log (Tried Bool)

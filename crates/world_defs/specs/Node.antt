@@ -123,6 +123,15 @@ pub data Outgoing : Type 0 where
   FrameAnswer : (lane next : ℕ) → (by : List ℤ) → Outgoing
   Fragment : (lane : ℕ) → (head : FrameHead) → (part : List ℕ) → (by : List ℤ) → Outgoing
 
+-- a fragment or the acknowledgement of fragments, of the type of messages
+abbrev pub is_message : Outgoing → Bool
+is_message (Probe walk looped) = false
+is_message (TablePart part by) = false
+is_message (Reply r) = false
+is_message (PartAnswer a) = false
+is_message (FrameAnswer lane next by) = true
+is_message (Fragment lane head part by) = true
+
 -- a staged probe or part as what is sent
 abbrev pub outgoing_staged : Staged → Outgoing
 outgoing_staged (StagedProbe walk looped) = Probe walk looped

@@ -1,11 +1,11 @@
 -- What a settle is made of: what is unacknowledged, the expiries, when passes and rounds end, and what bounds them.
 use Rattle.std.specs.Prelude.{ℕ, ◌+◌, ◌*◌, ◌-◌, Bool, not, ◌&&◌, ◌||◌, List, [], ◌∷◌, ◌++◌, map, length}
-use Rattle.std.specs.Prelude.{nat_eq, nat_lt, is_none}
+use Rattle.std.specs.Prelude.{nat_eq, nat_lt}
 use Rattle.std.specs.List.{list_any, list_all, filter}
 use Rattle.world_defs.specs.declared.event.Event.{Event}
 use Rattle.world_defs.specs.declared.event.Event.TheVariants.{Expire}
-use Rattle.world_defs.specs.Node.{to_send, lane_of, lane_at, unacknowledged_to}
-use Rattle.world_defs.specs.World.{WorldState, node_at, addresses, last_count, sum_of}
+use Rattle.world_defs.specs.Node.{lane_of, lane_at, unacknowledged_to}
+use Rattle.world_defs.specs.World.{WorldState, node_at, addresses, last_count, has_to_send, sum_of}
 
 -- how many fragments of a host's connections aren't acknowledged
 abbrev pub unacknowledged_from : WorldState → ℕ → ℕ
@@ -32,9 +32,9 @@ expiries w = expiries_of_all w (addresses w)
 abbrev pub serials : WorldState → List ℕ
 serials w = map (λ e. e.0) w.links.limbo
 
--- nothing is in limbo, and no host has anything to send
+-- nothing is in limbo, and no host has anything to send that its cable takes
 abbrev pub is_quiet : WorldState → Bool
-is_quiet w = list_all (λ h. is_none (to_send h (node_at w h))) (addresses w) && nat_eq (length w.links.limbo) 0
+is_quiet w = list_all (λ h. not (has_to_send w h)) (addresses w) && nat_eq (length w.links.limbo) 0
 
 -- each pass but the last injects or replays; each injection adds at most one packet to limbo
 abbrev pub pass_bound : WorldState → ℕ

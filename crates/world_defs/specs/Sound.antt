@@ -2,7 +2,6 @@
 use Rattle.std.specs.Prelude.{◌≡◌, ℕ, ◌<◌, List, [], ◌∷◌, ◌++◌, map, length, Option, Some, None}
 use Rattle.std.specs.List.{AllByRecursion}
 use Rattle.net_defs.specs.Network.{Apart}
-use Rattle.net_defs.specs.Route.{channels_of}
 use Rattle.mapping_defs.specs.Mapping.{RouteEntry}
 use Rattle.gm_defs.specs.declared.frame.ConnectionKey.{ConnectionKey}
 use Rattle.gm_defs.specs.Token.{PortState, sends_out, recvs_out}
@@ -10,17 +9,17 @@ use Rattle.net_defs.specs.Dependencies.{IsBefore, HasNoCycle}
 use Rattle.world_defs.specs.Table.{ActiveTable}
 use Rattle.world_defs.specs.Node.{port_at}
 use Rattle.world_defs.specs.Client.{ClientState}
-use Rattle.world_defs.specs.World.{WorldState, fabric_of, node_at, client_at, addresses}
-use Rattle.world_defs.specs.Traffic.{sent_on, got_on}
+use Rattle.world_defs.specs.World.{WorldState, node_at, client_at, addresses}
+use Rattle.world_defs.specs.Traffic.{route_channels, sent_on, got_on}
 
 -- the routes of an active table; none without one
 abbrev pub entries_in : Option ActiveTable → List RouteEntry
 entries_in None = []
 entries_in (Some t) = t.entries
 
--- the channels of each route of a host's active table
+-- the channels of each route of a host's active table, as the fabric stood at the adoption
 abbrev pub channels_from : WorldState → ℕ → List (List ℕ)
-channels_from w h = map (λ e. channels_of (fabric_of w) h e.walk) (entries_in (node_at w h).table.active)
+channels_from w h = map (λ e. route_channels w h e.walk) (entries_in (node_at w h).table.active)
 
 -- the channels of each installed route of these hosts
 abbrev pub channels_from_all : WorldState → List ℕ → List (List ℕ)

@@ -3,6 +3,7 @@ use Rattle.std.specs.Prelude.{ℕ, ◌+◌, ℤ, Bool, true, false, ◌||◌, Li
 use Rattle.std.specs.Prelude.{slice_set, if◌then◌else◌, Option, Some, None}
 use Rattle.std.specs.Map.{lookup}
 use Rattle.net_defs.specs.Route.{host_port}
+use Rattle.net_defs.specs.declared.vertex.End.{End}
 use Rattle.cable_history.specs.Crossed.{leaving}
 use Rattle.packet_defs.specs.declared.host_drop.HostDrop.{HostDrop}
 use Rattle.packet_defs.specs.declared.host_drop.HostDrop.TheVariants.{BadCrc as HostBadCrc, RouteLeft as HostRouteLeft}
@@ -18,12 +19,12 @@ use Rattle.link_defs.specs.declared.replayed.Replayed.{Replayed}
 use Rattle.link_defs.specs.declared.replayed.Replayed.TheVariants.{Back, Busy, Unknown}
 use Rattle.link_defs.specs.Links.{LinkState, packet_in, put}
 use Rattle.link_defs.specs.Advance.{advance}
-use Rattle.link_defs.specs.Fault.{lose, reset, repeat, hold, flip, replay}
+use Rattle.link_defs.specs.Fault.{lose, reset, repeat, hold, flip, replay, pull, plug}
 use Rattle.mapping_defs.specs.Mapping.{RoutePart}
 use Rattle.world_defs.specs.declared.event.Event.{Event}
 use Rattle.world_defs.specs.declared.event.Event.TheVariants.{Ask, Part, Inject, Advance, Lose, Repeat, Hold, Flip}
 use Rattle.world_defs.specs.declared.event.Event.TheVariants.{Replay, Reset, Expire, GiveUp, Begin, Close, Provide}
-use Rattle.world_defs.specs.declared.event.Event.TheVariants.{Send, Poll, Revoke}
+use Rattle.world_defs.specs.declared.event.Event.TheVariants.{Send, Poll, Revoke, Pull, Plug}
 use Rattle.world_defs.specs.declared.effect.Effect.{Effect}
 use Rattle.world_defs.specs.declared.effect.Effect.TheVariants.{Idle, Injected, Moved as MovedTo, Blocked, Arrived}
 use Rattle.world_defs.specs.declared.effect.Effect.TheVariants.{Dropped, Lost, Reset as WasReset, Flipped, Expired}
@@ -35,17 +36,17 @@ use Rattle.world_defs.specs.declared.effect.Cause.TheVariants.{OutOfRange, NotRo
 use Rattle.world_defs.specs.declared.effect.Cause.TheVariants.{UnknownType, Malformed, NotMine}
 use Rattle.world_defs.specs.declared.fault.Fault.{Fault}
 use Rattle.world_defs.specs.declared.fault.Fault.TheVariants.{Lose as LoseFault, Repeat as RepeatFault}
-use Rattle.world_defs.specs.declared.fault.Fault.TheVariants.{Hold as HoldFault, Flip as FlipFault}
+use Rattle.world_defs.specs.declared.fault.Fault.TheVariants.{Hold as HoldFault, Flip as FlipFault, Pull as PullFault}
 use Rattle.world_defs.specs.declared.arrival.Arrival.{Arrival}
 use Rattle.world_defs.specs.declared.arrival.Arrival.TheVariants.{Heard as Hears, Dropped as HostDropped}
 use Rattle.world_defs.specs.declared.arrival.Arrival.TheVariants.{NotMine as ArrivalNotMine}
 use Rattle.world_defs.specs.Table.{Adoption, part_for, route_of, revoked_table}
-use Rattle.world_defs.specs.Node.{NodeState, StagedProbe, StagedPart, Outgoing, to_send, packet_for, after_sending}
-use Rattle.world_defs.specs.Node.{has_staged, given_up, node_expired, unacknowledged_to}
+use Rattle.world_defs.specs.Node.{NodeState, StagedProbe, StagedPart, Outgoing, to_send, packet_for}
+use Rattle.world_defs.specs.Node.{after_sending, has_staged, given_up, node_expired, unacknowledged_to}
 use Rattle.world_defs.specs.Hearing.{hear}
 use Rattle.world_defs.specs.Client.{Called, Wanted, begun, closed, provided_by, sent_by, polled_by}
 use Rattle.world_defs.specs.World.{WorldState, host_count, last_count, node_at, with_node, with_links}
-use Rattle.world_defs.specs.World.{client_at, with_client, with_drop, without_fault}
+use Rattle.world_defs.specs.World.{client_at, with_client, with_drop, without_fault, keeps_out}
 
 -- an event that may change the links alone: idle where it isn't possible
 abbrev pub of_links : WorldState → Effect → Bool × LinkState → Effect × WorldState
@@ -87,6 +88,14 @@ flipped w c bit pattern = of_links w Flipped (flip w.links c bit pattern)
 unfoldable pub replayed : WorldState → ℕ → Effect × WorldState
 replayed w serial = of_replay w (replay w.links serial)
 
+-- the cable at a port is pulled
+unfoldable pub pulled : WorldState → End → Effect × WorldState
+pulled w e = of_links w (Said Done) (pull w.links e)
+
+-- two ports are joined by a cable
+unfoldable pub plugged : WorldState → End → End → Effect × WorldState
+plugged w a b = of_links w (Said Done) (plug w.links a b)
+
 -- a probe of a walk is staged at a host, in the place of what was staged there
 unfoldable pub asked : WorldState → ℕ → List ℤ → Bool → Effect × WorldState
 asked w h walk looped = (Staged, with_node w h (record (node_at w h) { staged = Some (StagedProbe walk looped) }))
@@ -108,19 +117,21 @@ stage_part w dst part (Some a) = stage_at w a.mapper (part_for a dst part) (rout
 unfoldable pub part_staged : WorldState → ℕ → ℕ → Effect × WorldState
 part_staged w dst part = stage_part w dst part w.adopted
 
--- what a fault does to the packet of a channel: whether it was possible, and the links after it
+-- what a fault does to the packet of a channel, or to a cable: whether it was possible, and the links after it
 abbrev pub fault_on : LinkState → ℕ → Fault → Bool × LinkState
 fault_on l c LoseFault = lose l c
 fault_on l c RepeatFault = (is_some (repeat l c).0, (repeat l c).1)
 fault_on l c HoldFault = (is_some (hold l c).0, (hold l c).1)
 fault_on l c (FlipFault bit pattern) = flip l c bit pattern
+fault_on l c (PullFault at) = pull l at
 
--- a fault that keeps its packet from its host, or spoils it
+-- a fault that keeps its packet from its host, or spoils it; a pull isn't counted as one
 abbrev pub is_harm : Fault → Bool
 is_harm LoseFault = true
 is_harm RepeatFault = false
 is_harm HoldFault = true
 is_harm (FlipFault bit pattern) = true
+is_harm (PullFault at) = false
 
 -- a fault that was possible struck; one that wasn't changes nothing
 abbrev pub struck_by : WorldState → Fault → Bool × LinkState → WorldState
@@ -131,12 +142,13 @@ struck_by w f (true, l) = record w {
 }
 struck_by w f (false, l) = w
 
--- the fault that was planned for the last injection strikes the packet in this channel, and is planned no more
+-- the fault that was planned for the last injection strikes, a packet's fault the one in this channel, and is planned no
+-- more
 abbrev pub fault_strikes : WorldState → ℕ → Option Fault → WorldState
 fault_strikes w c None = w
 fault_strikes w c (Some f) = struck_by (record w { plan = without_fault w.injected w.plan }) f (fault_on w.links c f)
 
--- the fault that is planned for the last injection strikes the packet in this channel
+-- the fault that is planned for the last injection strikes
 unfoldable pub planned_strikes : WorldState → ℕ → WorldState
 planned_strikes w c = fault_strikes w c (lookup (nat_eq w.injected) w.plan)
 
@@ -148,12 +160,12 @@ sent_out w h c out = record w {
   injected = w.injected + 1;
 }
 
--- an injection into a channel: idle where there is nothing to send, where the channel is full, or where no injection
--- is left
+-- an injection into a channel: idle where there is nothing to send, where the channel is full, where no injection is
+-- left, or where a message would go into a new cable
 abbrev pub inject_one : WorldState → ℕ → ℕ → Option Outgoing → Effect × WorldState
 inject_one w h c None = (Idle, w)
 inject_one w h c (Some out) =
-    if is_some (packet_in w.links c) || nat_le last_count w.injected then (Idle, w)
+    if is_some (packet_in w.links c) || nat_le last_count w.injected || keeps_out w c out then (Idle, w)
     else (Injected (w.injected + 1), planned_strikes (sent_out w h c out) c)
 
 -- an injection is idle where the host has no cable
@@ -161,8 +173,8 @@ abbrev pub inject_into : WorldState → ℕ → Option ℕ → Effect × WorldSt
 inject_into w h None = (Idle, w)
 inject_into w h (Some c) = inject_one w h c (to_send h (node_at w h))
 
--- A host puts what it has to send first into its channel, where it has a cable and that channel is empty; then the
--- planned fault strikes.
+-- A host puts what it has to send first into its channel, where it has a cable and that channel is empty, and where the
+-- cable isn't new or that is no message; then the planned fault strikes.
 unfoldable pub injected : WorldState → ℕ → Effect × WorldState
 injected w h = inject_into w h (leaving w.links.cables (host_port h))
 
@@ -258,6 +270,8 @@ step w (Send h port dest dport prio len seed) =
     of_call w h port (sent_by (node_at w h) (wanted port dest dport prio len seed) (client_at w h port))
 step w (Poll h port) = of_call w h port (polled_by (node_at w h) port (client_at w h port))
 step w (Revoke h) = revoked w h
+step w (Pull e) = pulled w e
+step w (Plug a b) = plugged w a b
 
 -- an effect stands before those of what follows
 abbrev pub followed_by : Effect × WorldState → (WorldState → List Effect × WorldState) → List Effect × WorldState

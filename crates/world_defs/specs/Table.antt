@@ -32,6 +32,11 @@ abbrev pub epoch_in : Option Adoption → ℕ
 epoch_in None = 0
 epoch_in (Some a) = a.epoch
 
+-- after how many changes of cables its epoch began; 0 before the first adoption
+abbrev pub at_in : Option Adoption → ℕ
+at_in None = 0
+at_in (Some a) = a.at
+
 -- an epoch is kept where the set is the adopted one, no host has given up the epoch, and no cable came or went since it
 -- began
 abbrev pub is_kept_in : Standing → List Route → Adoption → Bool

@@ -1,15 +1,16 @@
 -- Packets on their way: which go by an adopted route, and which say only what is true.
-use Rattle.std.specs.Prelude.{◌≡◌, ℕ, ℤ, false, List, [], ◌∷◌, ◌++◌, slice_get, Option, Some, None, Ok}
+use Rattle.std.specs.Prelude.{◌≡◌, ◌⊎◌, ℕ, ℤ, Bool, true, false, List, [], ◌∷◌, ◌++◌, slice_get, Option, Some, None, Ok}
+use Rattle.std.specs.Option.{option_map_or}
+use Rattle.std.specs.List.{list_any, AllByRecursion}
 use Rattle.net_defs.specs.declared.route.Route.{Route}
-use Rattle.net_defs.specs.declared.vertex.End.{End}
-use Rattle.net_defs.specs.Route.{host_port}
 use Rattle.packet_defs.specs.declared.kind.Kind.TheVariants.{Gm}
 use Rattle.packet_defs.specs.RouteByte.{turn_of}
 use Rattle.packet_defs.specs.Packet.{head}
 use Rattle.packet_defs.specs.Host.{body_of}
-use Rattle.cable_history.specs.History.{is_in_place}
-use Rattle.cable_history.specs.Crossed.{channels_by, life_tail}
-use Rattle.link_defs.specs.Kinds.{unrouted}
+use Rattle.cable_history.specs.declared.wire.Wire.{Wire}
+use Rattle.cable_history.specs.History.{is_in_place, is_left}
+use Rattle.cable_history.specs.Crossed.{channels_by, channels_at, life_tail, is_new, is_cut}
+use Rattle.link_defs.specs.Kinds.{unrouted, is_gm}
 use Rattle.link_defs.specs.Links.{Held, Caught, packet_in}
 use Rattle.gm_defs.specs.declared.message.Message.{Message}
 use Rattle.gm_defs.specs.declared.frame.FrameHead.{FrameHead}
@@ -18,7 +19,7 @@ use Rattle.gm_defs.specs.declared.frame.ConnectionKey.{ConnectionKey}
 use Rattle.gm_defs.specs.declared.frame.GmBody.TheVariants.{Frame, Ack as Acknowledges}
 use Rattle.gm_defs.specs.Body.{decode, part_in}
 use Rattle.gm_defs.specs.Fragment.{IsHonestFrame, IsHonestAck}
-use Rattle.world_defs.specs.Table.{Adoption}
+use Rattle.world_defs.specs.Table.{Adoption, at_in, route_of}
 use Rattle.gm_defs.specs.Connection.{SenderState}
 use Rattle.world_defs.specs.Node.{sending_lane, taking_lane, lane_at}
 use Rattle.world_defs.specs.World.{WorldState, node_at}
@@ -42,22 +43,42 @@ abbrev pub front_turns : List ℕ → List ℤ
 front_turns [] = []
 front_turns (byte ∷ bytes) = front_turn_then (turn_of byte) (front_turns bytes)
 
--- the channels that turns cross from an exit on, over the cables in place
-abbrev pub channels_crossed : WorldState → Option End → List ℤ → List ℕ
-channels_crossed w exit turns = channels_by w.links.cables is_in_place exit turns
+-- the channels that a walk from a host crossed as the fabric stood at the adoption
+abbrev pub route_channels : WorldState → ℕ → List ℤ → List ℕ
+route_channels w host walk = channels_at w.links.cables (at_in w.adopted) host walk
 
--- the channel of a packet, and the channels to which its route bytes lead
+-- a walk from a host crossed a cable at the adoption that was pulled since
+abbrev pub is_cut_walk : WorldState → ℕ → List ℤ → Bool
+is_cut_walk w host walk = list_any (is_cut w.links.cables) (route_channels w host walk)
+
+-- the adopted route from one host to another crosses a cable that was pulled since the adoption
+abbrev pub is_broken : WorldState → ℕ → ℕ → Bool
+is_broken w from to = option_map_or (is_cut_walk w from) (route_of (adopted_routes w) from to) false
+
+-- the channel of a packet, and those to which its route bytes lead over cables that pass a test
+abbrev pub ahead_by : WorldState → (Wire → Bool) → ℕ → List ℕ → List ℕ
+ahead_by w test c wire = channels_by w.links.cables test (life_tail w.links.cables c) (front_turns (head wire))
+
+-- what lies ahead of a packet: up to the first new cable, or the first end without one
 abbrev pub channels_ahead : WorldState → ℕ → List ℕ → List ℕ
-channels_ahead w c wire = channels_crossed w (life_tail w.links.cables c) (front_turns (head wire))
+channels_ahead w c wire = ahead_by w (is_left w.links.cables) c wire
 
--- A packet is lawful where no flip has met it, and what lies ahead of it is the last part of an adopted route.
+-- no new cable lies ahead of a packet
+abbrev pub MeetsNoNewCable : WorldState → ℕ → List ℕ → Type 0
+MeetsNoNewCable w c wire = AllByRecursion (λ d. is_new w.links.cables d ≡ false) (ahead_by w is_in_place c wire)
+
+-- A packet is lawful where no flip has met it, its cable isn't new, what lies ahead of it is a stretch of an adopted
+-- route, and it is a message's where a new cable ends that.
 pub record IsLawful (w : WorldState) (c : ℕ) (held : Held) : Type 0 where
   pub unmarked : held.marked ≡ false
+  pub accepted : is_new w.links.cables c ≡ false
   pub place : ℕ
   pub route : Route
   pub behind : List ℕ
+  pub beyond : List ℕ
   pub there : slice_get (adopted_routes w) place ≡ Some route
-  pub ends_it : channels_crossed w (Some (host_port route.from)) route.walk ≡ behind ++ channels_ahead w c held.wire
+  pub within : route_channels w route.from route.walk ≡ behind ++ (channels_ahead w c held.wire ++ beyond)
+  pub stopped : (is_gm held.wire ≡ true) ⊎ MeetsNoNewCable w c held.wire
 
 -- traffic is lawful where every packet in every channel is
 pub record IsLawfulTraffic (w : WorldState) : Type 0 where

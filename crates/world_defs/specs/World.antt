@@ -1,19 +1,22 @@
 -- What a world is, and how it is read and changed.
-use Rattle.std.specs.Prelude.{ℕ, ◌+◌, ◌-◌, ◌^◌, Bool, not, List, [], ◌∷◌, length, min, replicate, find, slice_index_or}
-use Rattle.std.specs.Prelude.{slice_set, nat_eq, if◌then◌else◌, Option, Some, None}
+use Rattle.std.specs.Prelude.{ℕ, ◌+◌, ◌-◌, ◌^◌, Bool, false, not, ◌&&◌, List, [], ◌∷◌, length, min, replicate, find}
+use Rattle.std.specs.Prelude.{slice_index_or, slice_set, nat_eq, if◌then◌else◌, Option, Some, None}
+use Rattle.std.specs.Option.{option_map_or}
 use Rattle.std.specs.List.{list_any, range_with_len}
 use Rattle.std.specs.Map.{remove_entry}
 use Rattle.std.specs.BTreeMap.{insert_entry}
 use Rattle.std.specs.Ordering.{nat_cmp}
 use Rattle.net_defs.specs.declared.route.Route.{Route}
 use Rattle.net_defs.specs.Network.{Network}
+use Rattle.net_defs.specs.Route.{host_port}
 use Rattle.cable_history.specs.History.{fabric_now}
+use Rattle.cable_history.specs.Crossed.{leaving, is_new}
 use Rattle.link_defs.specs.Links.{LinkState, empty_links}
 use Rattle.link_defs.specs.Fault.{accept}
 use Rattle.world_defs.specs.declared.fault.Fault.{Fault}
 use Rattle.world_defs.specs.declared.standing.Standing.{Standing}
 use Rattle.world_defs.specs.Table.{Adoption, whole_table, has_revoked, epoch_in, keeps_in, may_adopt_in, adopted_in}
-use Rattle.world_defs.specs.Node.{NodeState, new_node, port_count}
+use Rattle.world_defs.specs.Node.{NodeState, Outgoing, is_message, to_send, new_node, port_count}
 use Rattle.world_defs.specs.Client.{ClientState}
 
 -- A world has the links with their cables, the hosts by address, the clients by host and port, where it is open, the
@@ -142,6 +145,20 @@ adopted_by w mapper routes =
       links = if keeps_epoch w routes then w.links else accept w.links;
       adopted = Some (adoption_of w mapper routes);
     }
+
+-- a new cable keeps out what its host sends on adopted routes
+abbrev pub keeps_out : WorldState → ℕ → Outgoing → Bool
+keeps_out w c out = is_new w.links.cables c && is_message out
+
+-- what a host sends first may go into its channel
+abbrev pub may_send : WorldState → ℕ → Option Outgoing → Bool
+may_send w c None = false
+may_send w c (Some out) = not (keeps_out w c out)
+
+-- A host has something to send: not where it has no cable, nor where its cable is new and it has messages alone.
+abbrev pub has_to_send : WorldState → ℕ → Bool
+has_to_send w h =
+    option_map_or (λ c. may_send w c (to_send h (node_at w h))) (leaving w.links.cables (host_port h)) false
 
 -- the sum of numbers
 abbrev pub sum_of : List ℕ → ℕ

@@ -30,7 +30,7 @@ pub enum Cause {
 /// What a client's call was answered.
 #[derive(Debug, Drop)]
 pub enum Said {
-    /// The port was opened, or the epoch given up.
+    /// The port was opened, the epoch given up, or the cable taken out or put in.
     Done,
     /// The port is closed, and so many provided tokens came back.
     Count(u32),
@@ -90,6 +90,6 @@ pub enum Effect {
     Replayed(u16),
     /// A probe or a part is staged.
     Staged,
-    /// A client's call, or one to give up an epoch, was answered so.
+    /// A client's call, one to give up an epoch, or a change of cables was answered so.
     Said(Said),
 }

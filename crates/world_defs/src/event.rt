@@ -1,6 +1,6 @@
 //! What may happen in a world: each event is one atomic action of a host, of a channel or of a client.
 
-use net_defs::Walk;
+use net_defs::{End, Walk};
 
 /// One event. Hosts are addresses, channels their numbers.
 #[derive(Debug, Drop)]
@@ -108,4 +108,8 @@ pub enum Event {
     },
     /// The host gives up its table and its parts of the adopted routes' epoch.
     Revoke(u16),
+    /// The cable at this port is taken out, with the packets in its two channels and those in limbo from them.
+    Pull(End),
+    /// The two ports are joined by a cable.
+    Plug(End, End),
 }

@@ -1,6 +1,8 @@
 //! What may be planned for an injection.
 
-/// A fault that strikes a packet as soon as it is injected.
+use net_defs::End;
+
+/// A fault that strikes as soon as a packet is injected.
 #[derive(Clone, Copy, Debug, PartialEq, Eq)]
 pub enum Fault {
     /// The packet is gone.
@@ -15,5 +17,10 @@ pub enum Fault {
         bit: u32,
         /// A 1 for each bit that is flipped, the greatest first; with 0 nothing is flipped.
         pattern: u8,
+    },
+    /// The cable at this port is taken out, with all that it holds.
+    Pull {
+        /// One of the cable's two ports.
+        at: End,
     },
 }

@@ -13,6 +13,8 @@
 //! | `Log`, `Logs` | what a log is, and its words; a drain, a clear, a settle, an ask and an installation, said with them |
 //! | `Row` | events in a row from one world to another, and a part of the way along them |
 //! | `Traffic`, `Sound`, `Settled` | lawful and honest packets, what is sound at a moment, settled connections |
+//! | `Cables` | which events may change the cables |
+//! | `Examples`, `Cuts` | worlds for worked examples |
 //!
 //! ```text
 //!   host a                                      host b
@@ -27,6 +29,7 @@
 mod applied;
 mod arrival;
 mod client;
+mod cuts;
 mod effect;
 mod event;
 mod examples;
@@ -37,6 +40,10 @@ mod standing;
 pub use applied::Applied;
 pub use arrival::Arrival;
 pub use client::ClientCause;
+pub use cuts::{
+    broken_routes, cable_renewed, map_while_a_cable_goes, new_cables, planned_pulls,
+    pulls_and_plugs, pulls_take_packets, traffic_of_cut_routes,
+};
 pub use effect::{Cause, Effect, Said};
 pub use event::Event;
 pub use examples::{

@@ -5,7 +5,7 @@ use Rattle.world_defs.specs.declared.event.Event.TheVariants.{GiveUp}
 use Rattle.world_defs.specs.declared.effect.Effect.{Effect}
 use Rattle.world_defs.specs.declared.effect.Effect.TheVariants.{Idle, GaveUp}
 use Rattle.world_defs.specs.Node.{has_staged, given_up}
-use Rattle.world_defs.specs.World.{WorldState, fabric_of, host_count, addresses, node_at, with_node}
+use Rattle.world_defs.specs.World.{WorldState, host_count, addresses, node_at, with_node}
 use Rattle.world_defs.specs.Step.{step, gave_up, after_all}
 use Rattle.world_defs.specs.Asking.{all_given_up}
 use Rattle.world_defs.specs.Row.{IsPartWay}
@@ -21,27 +21,24 @@ give_up-idle w h none = ap (λ b. (if b then (let r : Effect × WorldState = (Ga
 pub record GivingUp (first now : WorldState) (host : ℕ) : Type 0 where
   pub rest : after_all now (map GiveUp (range_with_len host (host_count first - host))) ≡ all_given_up first
   pub way : (v : WorldState) → IsPartWay now (map GiveUp (range_with_len host (host_count first - host))) v → IsPartWay first (map GiveUp (addresses first)) v
-  pub fabric : fabric_of now ≡ fabric_of first
   pub hosts : host_count now ≡ host_count first
 
 pub giving-none : (w : WorldState) → GivingUp w w 0
 giving-none w = record {
   rest = let e : host_count w - 0 ≡ host_count w = omega arith in ap (λ n. after_all w (map GiveUp (range_with_len 0 n))) e;
   way = λ v p. way-first GiveUp w v (host_count w) p;
-  fabric = refl;
   hosts = refl;
 }
 
 pub giving-on : (first now next : WorldState) (host : ℕ) → GivingUp first now host → host < host_count first → next ≡ (step now (GiveUp host)).1
-    → fabric_of next ≡ fabric_of now → host_count next ≡ host_count now → GivingUp first next (host + 1)
-giving-on first now next host g low is net hosts =
+    → host_count next ≡ host_count now → GivingUp first next (host + 1)
+giving-on first now next host g low is hosts =
     let left : host_count first - host ≡ suc (host_count first - (host + 1)) = omega (arith, low) in
     record {
       rest =
           ap (λ w. after_all w (map GiveUp (range_with_len (host + 1) (host_count first - (host + 1))))) is
           ∙ ap (λ n. after_all now (map GiveUp (range_with_len host n))) (sym left) ∙ g.rest;
       way = λ v p. g.way v (way-next GiveUp now next v host (host_count first) host (omega arith) low (λ k a b. absurd (omega (arith, a, b))) is p);
-      fabric = net ∙ g.fabric;
       hosts = hosts ∙ g.hosts;
     }
 

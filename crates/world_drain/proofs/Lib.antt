@@ -1,4 +1,5 @@
 pub mod AtRest
+pub mod Cables
 pub mod Drained
 pub mod EventRows
 pub mod Expiries

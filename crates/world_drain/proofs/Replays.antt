@@ -27,7 +27,7 @@ one_replay w serial = log.cleared (Replay serial ∷ []) w
 pub replay-moved : (w : WorldState) (serial : ℕ) (b : Bool) → b ≡ changed (step w (Replay serial)).0 → b ≡ nat_lt 0 (one_replay w serial).value.moves
 replay-moved w serial b is = is ∙ (sym (one-moved (changed (step w (Replay serial)).0)) ∙ sym (ap (nat_lt 0) (one-change (step w (Replay serial)).0)))
 
-pub replay-resets : (w u : WorldState) (serial n : ℕ) → u ≡ (step w (Replay serial)).1 → n ≡ (log.clear u).value → n ≤ 1152 → n ≡ capped (one_replay w serial).value.resets
+pub replay-resets : (w u : WorldState) (serial n : ℕ) → u ≡ (step w (Replay serial)).1 → n ≡ (log.clear u).value → n ≤ 8192 → n ≡ capped (one_replay w serial).value.resets
 replay-resets w u serial n is counted few = capped-few n few ∙ ap capped (counted ∙ ap (λ x. (log.clear x).value) is)
 
 pub replay-world : (w u v : WorldState) (serial : ℕ) → u ≡ (step w (Replay serial)).1 → v ≡ (log.clear u).world → v ≡ (one_replay w serial).world

@@ -1,8 +1,9 @@
 -- Resets of full channels alone come to what resets of all channels do.
-use Rattle.std.proofs.Common.{◌≡◌, ◌<◌, ◌≤◌, ℕ, zero, suc, ◌+◌, ◌-◌, true, List, ◌∷◌, map, length, None, is_some, refl, sym, ◌∙◌, ap, subst, arith}
+use Rattle.std.proofs.Common.{◌≡◌, ◌<◌, ◌≤◌, ℕ, zero, suc, ◌+◌, ◌-◌, Bool, true, false, List, ◌∷◌, map, length, Option, None, is_some, refl, sym, ◌∙◌, ap, subst, arith}
 use Rattle.std.specs.Prelude.{Result, Ok, Err, IfOk, OnOk}
 use Rattle.std.specs.List.{range_with_len}
-use Rattle.link_defs.specs.Links.{packet_in, emptied, is_idle}
+use Rattle.std.proofs.Math.ListN.{length-set}
+use Rattle.link_defs.specs.Links.{Held, packet_in, emptied, is_idle}
 use Rattle.world_defs.specs.declared.event.Event.TheVariants.{Reset}
 use Rattle.world_defs.specs.declared.effect.Effect.{Effect}
 use Rattle.world_defs.specs.declared.effect.Effect.TheVariants.{Idle, Reset as WasReset}
@@ -19,6 +20,15 @@ use Rattle.log_laws.proofs.PartWay.{way-first, way-next}
 reset-idle : (w : WorldState) (c : ℕ) → packet_in w.links c ≡ None → step w (Reset c) ≡ (Idle, w)
 unfolding was_reset
 reset-idle w c e = ap (λ o. of_links w WasReset (is_some o, emptied w.links c)) e
+
+-- and a reset leaves as many channels
+pub reset-channels : (w : WorldState) (c : ℕ) → length (step w (Reset c)).1.links.channels ≡ length w.links.channels
+unfolding was_reset
+reset-channels w c = by (is_some (packet_in w.links c))
+  where
+    by : (t : Bool) → length (of_links w WasReset (t, emptied w.links c)).1.links.channels ≡ length w.links.channels
+    by true = length-set {A = Option Held} w.links.channels c None
+    by false = refl
 
 -- resets of so many channels from one on count and do what those of others do
 abbrev AreSame : WorldState → (from all next rest : ℕ) → Type 0

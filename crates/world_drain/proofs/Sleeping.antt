@@ -24,7 +24,7 @@ use Rattle.world_defs.specs.declared.event.Event.TheVariants.{Advance}
 use Rattle.world_defs.specs.declared.effect.Effect.{Effect}
 use Rattle.world_defs.specs.Node.{NodeState}
 use Rattle.world_defs.specs.Hearing.{hear}
-use Rattle.world_defs.specs.World.{WorldState, fabric_of, host_count, node_at, with_links}
+use Rattle.world_defs.specs.World.{WorldState, host_count, node_at, with_links}
 use Rattle.world_defs.specs.Step.{arrived, advanced_by, advanced, step}
 use Rattle.world_laws.proofs.Draining.{advance-links, advance-changed}
 use Rattle.world_drain.specs.declared.awake.Awake.{Awake}

@@ -26,7 +26,7 @@ pub not-moved : (n : ℕ) → not (nat_lt 0 n) ≡ nat_eq n 0
 not-moved n = grind (arith, nat_tests)
 
 -- counts
-pub capped-few : (n : ℕ) → n ≤ 1152 → n ≡ capped n
+pub capped-few : (n : ℕ) → n ≤ 8192 → n ≡ capped n
 capped-few n few = omega (arith, few)
 
 pub capped-sum : (a b x y z : ℕ) → x ≡ capped a → y ≡ capped b → z ≡ capped (x + y) → z ≡ capped (a + b)

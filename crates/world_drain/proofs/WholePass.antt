@@ -29,7 +29,7 @@ pub injects-there : (w t : WorldState) → t ≡ all_given_up w → host_count t
 injects-there w t is hosts = ap (λ n. steps t (map Inject (range_with_len 0 n))) hosts ∙ ap (λ x. steps x (map Inject (addresses w))) is
 
 pub pass-told : (w t u v last : WorldState) (injected moved both : Bool) (resets more all : ℕ) → t ≡ all_given_up w → host_count t ≡ host_count w
-    → injected ≡ nat_lt 0 (changes (all_injects t).0) → u ≡ (all_injects t).1 → resets ≡ (log.clear u).value → v ≡ (log.clear u).world → resets ≤ 1152
+    → injected ≡ nat_lt 0 (changes (all_injects t).0) → u ≡ (all_injects t).1 → resets ≡ (log.clear u).value → v ≡ (log.clear u).world → resets ≤ 8192
     → moved ≡ nat_lt 0 (all_replays v).value.moves → more ≡ capped (all_replays v).value.resets → last ≡ (all_replays v).world
     → both ≡ (injected || moved) → all ≡ capped (resets + more) → IsPass w last both all
 unfolding log.round_pass

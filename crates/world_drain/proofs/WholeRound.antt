@@ -118,7 +118,7 @@ pub record IsSettled (w v : WorldState) (rounds resets : ℕ) : Type 0 where
 rounds-zero : (n : ℕ) → n ≡ 0 + n
 rounds-zero n = omega arith
 
-pub settled-is : (w u v : WorldState) (rounds first rest all : ℕ) → first ≡ (log.clear w).value → u ≡ (log.clear w).world → first ≤ 1152 → AreRounds u v rounds rest → all ≡ capped (first + rest)
+pub settled-is : (w u v : WorldState) (rounds first rest all : ℕ) → first ≡ (log.clear w).value → u ≡ (log.clear w).world → first ≤ 8192 → AreRounds u v rounds rest → all ≡ capped (first + rest)
     → IsSettled w v rounds all
 unfolding log.settle
 settled-is w u v rounds first rest all counted cleared few r all_is =

@@ -87,11 +87,11 @@ impl Awake {
         requires there { c < length w.now.links.channels }
         ensures { AreAwake w.now.links self.new.marks self.new.places.items self.new.counts.items }
     {
-        let _few = w.channels();
-        let count = number_at(&self.counts, next);
+        let row = usize::from(next);
+        let count = number_at(&self.counts, row);
         if count < PLACES {
-            put(&mut self.places, PLACES * next + count, c);
-            put(&mut self.counts, next, count + 1);
+            put(&mut self.places, place_of(next, count), c);
+            put(&mut self.counts, row, count + 1);
             unmark(&mut self.marks, c);
         }
     }
@@ -102,11 +102,15 @@ impl Awake {
         requires there { c < length w.now.links.channels }
         ensures { AreAwake w.now.links self.new.marks self.new.places.items self.new.counts.items }
     {
-        let _few = w.channels();
-        let first = PLACES * c;
-        let end = first + number_at(&self.counts, c);
-        mark_all(&self.places, first, end, &mut self.marks);
-        put(&mut self.counts, c, 0);
+        let row = usize::from(c);
+        let count = number_at(&self.counts, row);
+        mark_all(
+            &self.places,
+            place_of(c, 0),
+            place_of(c, count),
+            &mut self.marks,
+        );
+        put(&mut self.counts, row, 0);
     }
 }
 
@@ -125,7 +129,7 @@ fn mark_full(w: &World, marks: &mut Marks)
 }
 
 // Marks the channels that stand from one place up to another.
-fn mark_all(places: &Vec<u16>, first: u16, end: u16, marks: &mut Marks)
+fn mark_all(places: &Vec<u16>, first: usize, end: usize, marks: &mut Marks)
     requires within { end ≤ length places.now.items }
     requires low { (i : ℕ) → slice_index_or places.now.items i 0 < 64 * length marks.old }
     ensures size { length marks.new ≡ length marks.old }
@@ -153,18 +157,25 @@ fn unmark(marks: &mut Marks, c: u16)
     marks.unmark(usize::from(c));
 }
 
+// A place in the row of a channel.
+fn place_of(channel: u16, number: u16) -> usize
+    ensures { result ≡ 16 * channel + number }
+{
+    usize::from(PLACES) * usize::from(channel) + usize::from(number)
+}
+
 // The number at a place.
-fn number_at(numbers: &Vec<u16>, at: u16) -> u16
+fn number_at(numbers: &Vec<u16>, at: usize) -> u16
     requires { at < length numbers.now.items }
     ensures { result ≡ slice_index_or numbers.now.items at 0 }
 {
-    numbers[usize::from(at)]
+    numbers[at]
 }
 
 // Puts a number at a place.
-fn put(numbers: &mut Vec<u16>, at: u16, number: u16)
+fn put(numbers: &mut Vec<u16>, at: usize, number: u16)
     requires { at < length numbers.old.items }
     ensures { numbers.new.items ≡ slice_set numbers.old.items at number }
 {
-    numbers[usize::from(at)] = number;
+    numbers[at] = number;
 }

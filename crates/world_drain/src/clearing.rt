@@ -2,7 +2,7 @@
 
 ghost use Rattle.std.specs.Prelude.{◌≡◌, ◌≤◌, true, length, IfOk, OnOk, OnErr};
 ghost use Rattle.link_defs.specs.Links.{is_idle};
-ghost use Rattle.world_defs.specs.World.{fabric_of, host_count};
+ghost use Rattle.world_defs.specs.World.{host_count};
 ghost use Rattle.world_defs.specs.Step.{steps};
 ghost use Rattle.world_defs.specs.Drain.{resets_of, reset_count};
 ghost use Rattle.world_defs.specs.Logs as log;
@@ -18,10 +18,10 @@ use std::alloc::{AllocError, Global};
 pub fn clear(alloc: Global, w: &mut World) -> Result<u64, AllocError>
     ensures resets { IfOk result (λ resets. resets ≡ (log.clear w.old).value) }
     ensures after { OnOk result (w.new ≡ (log.clear w.old).world) }
-    ensures few { IfOk result (λ resets. resets ≤ 1152) }
+    ensures few { IfOk result (λ resets. resets ≤ 8192) }
     ensures err { OnErr result (IsPartWay w.old (log.clear w.old).events w.new) }
     ensures idle { OnOk result (is_idle w.new.links ≡ true) }
-    ensures fabric { fabric_of w.new ≡ fabric_of w.old }
+    ensures cables { w.new.links.cables ≡ w.old.links.cables }
     ensures hosts { host_count w.new ≡ host_count w.old }
     ensures channels { length w.new.links.channels ≡ length w.old.links.channels }
     ensures adopted { w.new.adopted ≡ w.old.adopted }
@@ -34,7 +34,7 @@ pub fn clear(alloc: Global, w: &mut World) -> Result<u64, AllocError>
 // Resets each channel that holds a packet, by rising number: how many. Those that are empty have nothing to reset.
 fn reset_full(alloc: Global, w: &mut World) -> Result<u64, AllocError>
     ensures ok { IfOk result (λ resets. reset_count (steps w.old (resets_of w.old)) ≡ (resets, w.new)) }
-    ensures few { IfOk result (λ resets. resets ≤ 1152) }
+    ensures few { IfOk result (λ resets. resets ≤ 8192) }
     ensures err { OnErr result (IsPartWay w.old (resets_of w.old) w.new) }
 {
     let _few = w.channels();

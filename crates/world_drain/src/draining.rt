@@ -2,7 +2,7 @@
 
 ghost use Rattle.std.specs.Prelude.{◌≡◌, ◌<◌, ◌≤◌, ◌∷◌, [], length, IfOk, IfSome, OnOk, OnErr};
 ghost use Rattle.link_defs.specs.Hops.{total_hops};
-ghost use Rattle.world_defs.specs.World.{fabric_of, host_count};
+ghost use Rattle.world_defs.specs.World.{host_count};
 ghost use Rattle.world_defs.specs.declared.event.Event.TheVariants.{Advance};
 ghost use Rattle.world_defs.specs.Step.{step};
 ghost use Rattle.world_defs.specs.Drain.{changes};
@@ -39,7 +39,7 @@ pub fn drain_watching(alloc: Global, w: &mut World, watch: Watch) -> Result<Seen
     ensures heard { IfOk result (λ s. IfSome s.probed (λ h. h < host_count w.old)) }
     ensures after { OnOk result (w.new ≡ (log.drain w.old).world) }
     ensures err { OnErr result (IsPartWay w.old (log.drain w.old).events w.new) }
-    ensures fabric { fabric_of w.new ≡ fabric_of w.old }
+    ensures cables { w.new.links.cables ≡ w.old.links.cables }
     ensures hosts { host_count w.new ≡ host_count w.old }
 {
     w.moment();

@@ -1,7 +1,7 @@
 //! Every host gives up what it staged.
 
 ghost use Rattle.std.specs.Prelude.{◌≡◌, map, OnOk, OnErr};
-ghost use Rattle.world_defs.specs.World.{fabric_of, host_count, addresses};
+ghost use Rattle.world_defs.specs.World.{host_count, addresses};
 ghost use Rattle.world_defs.specs.declared.event.Event.TheVariants.{GiveUp};
 ghost use Rattle.world_defs.specs.Step.{step};
 ghost use Rattle.world_defs.specs.Asking.{all_given_up};
@@ -17,7 +17,7 @@ use std::alloc::{AllocError, Global};
 pub fn give_up_all(alloc: Global, w: &mut World) -> Result<(), AllocError>
     ensures after { OnOk result (w.new ≡ all_given_up w.old) }
     ensures err { OnErr result (IsPartWay w.old (map GiveUp (addresses w.old)) w.new) }
-    ensures fabric { fabric_of w.new ≡ fabric_of w.old }
+    ensures cables { w.new.links.cables ≡ w.old.links.cables }
     ensures hosts { host_count w.new ≡ host_count w.old }
 {
     let _few = w.hosts();
@@ -34,7 +34,6 @@ fn give_up(alloc: Global, w: &mut World, host: u16) -> Result<(), AllocError>
     requires { IsHostOf w.old host }
     ensures after { OnOk result (w.new ≡ (step w.old (GiveUp host)).1) }
     ensures err { OnErr result (w.new ≡ w.old) }
-    ensures fabric { fabric_of w.new ≡ fabric_of w.old }
     ensures hosts { host_count w.new ≡ host_count w.old }
 {
     give_up_staged(alloc, w, host)?;
@@ -47,7 +46,6 @@ fn give_up_staged(alloc: Global, w: &mut World, host: u16) -> Result<(), AllocEr
     requires { IsHostOf w.old host }
     ensures after { OnOk result (w.new ≡ (step w.old (GiveUp host)).1) }
     ensures err { OnErr result (w.new ≡ w.old) }
-    ensures fabric { fabric_of w.new ≡ fabric_of w.old }
     ensures hosts { host_count w.new ≡ host_count w.old }
 {
     if w.has_staged(host) {

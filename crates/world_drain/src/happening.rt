@@ -1,7 +1,8 @@
 //! One event.
 
 ghost use Rattle.std.specs.Prelude.{◌≡◌, ◌≤◌, length, true, IfOk, OnOk, OnErr};
-ghost use Rattle.world_defs.specs.World.{fabric_of, host_count};
+ghost use Rattle.cable_history.specs.Later.{OnlyPulled, IsLater};
+ghost use Rattle.world_defs.specs.World.{host_count};
 ghost use Rattle.world_defs.specs.declared.event.Event.TheVariants.{Ask, Inject};
 ghost use Rattle.world_defs.specs.Drain.{changed};
 ghost use Rattle.world_defs.specs.Step.{step};
@@ -17,9 +18,9 @@ pub fn happen(alloc: Global, w: &mut World, e: Event) -> Result<(), AllocError>
     requires { IsGiven w.old e }
     ensures after { OnOk result (w.new ≡ (step w.old e).1) }
     ensures err { OnErr result (w.new ≡ w.old) }
-    ensures fabric { fabric_of w.new ≡ fabric_of w.old }
+    ensures cables { IsLater w.old.links.cables w.new.links.cables }
     ensures hosts { host_count w.new ≡ host_count w.old }
-    ensures channels { length w.new.links.channels ≡ length w.old.links.channels }
+    ensures channels { length w.old.links.channels ≤ length w.new.links.channels }
 {
     w.step(alloc, e)?;
     Ok(())
@@ -32,7 +33,7 @@ pub fn inject(alloc: Global, w: &mut World, host: u16) -> Result<Option<u64>, Al
     ensures number { IfOk result (λ n. n ≡ number_of (step w.old (Inject host)).0) }
     ensures after { OnOk result (w.new ≡ (step w.old (Inject host)).1) }
     ensures err { OnErr result (w.new ≡ w.old) }
-    ensures fabric { fabric_of w.new ≡ fabric_of w.old }
+    ensures cables { OnlyPulled w.old.links.cables w.new.links.cables }
     ensures hosts { host_count w.new ≡ host_count w.old }
 {
     let effect = w.inject(alloc, host)?;
@@ -54,7 +55,7 @@ pub fn probe(
         ≡ number_of (step (step w.old (Ask host walk.now looped)).1 (Inject host)).0) }
     ensures after { OnOk result (w.new ≡ (step (step w.old (Ask host walk.now looped)).1 (Inject host)).1) }
     ensures err { OnErr result (w.new ≡ w.old) }
-    ensures fabric { fabric_of w.new ≡ fabric_of w.old }
+    ensures cables { OnlyPulled w.old.links.cables w.new.links.cables }
     ensures hosts { host_count w.new ≡ host_count w.old }
 {
     let effect = w.probe(alloc, host, walk, looped)?;

@@ -1,10 +1,9 @@
 //! A pass over all hosts and over limbo, and passes in a row.
 
-ghost use Rattle.std.specs.Prelude.{◌≡◌, ◌||◌, not, nat_lt, map, is_none, IfOk, OnOk, OnErr};
+ghost use Rattle.std.specs.Prelude.{◌≡◌, ◌||◌, not, nat_lt, map, IfOk, OnOk, OnErr};
 ghost use Rattle.std.specs.List.{list_all};
 ghost use Rattle.world_defs.specs.declared.event.Event.TheVariants.{Inject};
-ghost use Rattle.world_defs.specs.Node.{to_send};
-ghost use Rattle.world_defs.specs.World.{host_count, node_at, addresses};
+ghost use Rattle.world_defs.specs.World.{host_count, addresses, has_to_send};
 ghost use Rattle.world_defs.specs.Step.{steps};
 ghost use Rattle.world_defs.specs.Drain.{changes};
 ghost use Rattle.world_defs.specs.Settle.{is_quiet, pass_bound};
@@ -19,9 +18,9 @@ use crate::replaying::{Told, replay_all};
 use fab_world::{Event, World};
 use std::alloc::{AllocError, Global};
 
-/// Passes, at least one, up to one that leaves limbo empty and no host with anything to send, or in which each
-/// injection and each replay was idle: how many channels were reset. That count stays at its last value once there.
-/// Running out of memory leaves a world that a prefix of their events leads to.
+/// Passes, at least one, up to one that leaves limbo empty and no host with anything to send that its cable takes, or
+/// in which each injection and each replay was idle: how many channels were reset. That count stays at its last value
+/// once there. Running out of memory leaves a world that a prefix of their events leads to.
 pub(crate) fn passes(alloc: Global, w: &mut World) -> Result<u64, AllocError>
     ensures resets { IfOk result (λ n. n ≡ capped (log.round_passes (pass_bound w.old) w.old).value.resets) }
     ensures after { OnOk result (w.new ≡ (log.round_passes (pass_bound w.old) w.old).world) }
@@ -44,16 +43,16 @@ fn is_last(w: &World, once: Told) -> bool
     !once.moved || is_quiet(w)
 }
 
-// Whether nothing is in limbo, and no host has anything to send.
+// Whether nothing is in limbo, and no host has anything to send that its cable takes.
 fn is_quiet(w: &World) -> bool
     ensures { result ≡ is_quiet w.now }
 {
     w.next_limbo(0).is_none() && none_sends(w)
 }
 
-// Whether no host has anything to send. A silent one has nothing.
+// Whether no host has anything to send that its cable takes. A silent one has nothing.
 fn none_sends(w: &World) -> bool
-    ensures { result ≡ list_all (λ h. is_none (to_send h (node_at w.now h))) (addresses w.now) }
+    ensures { result ≡ list_all (λ h. not (has_to_send w.now h)) (addresses w.now) }
 {
     let _few = w.hosts();
     let mut from = 0;

@@ -2,8 +2,9 @@
 
 ghost use Rattle.std.specs.Prelude.{◌≡◌, ◌≤◌, ◌<◌, ◌+◌, ◌||◌, true, not, nat_eq, nat_lt, min, length};
 ghost use Rattle.std.specs.Prelude.{IfOk, OnOk, OnErr};
+ghost use Rattle.cable_history.specs.Later.{OnlyPulled};
 ghost use Rattle.link_defs.specs.Links.{is_idle};
-ghost use Rattle.world_defs.specs.World.{fabric_of, host_count, last_count};
+ghost use Rattle.world_defs.specs.World.{host_count, last_count};
 ghost use Rattle.world_defs.specs.declared.event.Event.TheVariants.{Expire};
 ghost use Rattle.world_defs.specs.Step.{step, after_all};
 ghost use Rattle.world_defs.specs.Settle.{unacknowledged_in, expiries_of, expiries, round_bound};
@@ -50,7 +51,7 @@ pub fn settle(alloc: Global, w: &mut World) -> Result<Settled, AllocError>
     ensures got { IfOk result (λ s. s.unacked ≡ 0 → IsAllGot w.new) }
     ensures err { OnErr result (IsPartWay w.old (log.settle w.old).events w.new) }
     ensures idle { OnOk result (is_idle w.new.links ≡ true) }
-    ensures fabric { fabric_of w.new ≡ fabric_of w.old }
+    ensures cables { OnlyPulled w.old.links.cables w.new.links.cables }
     ensures hosts { host_count w.new ≡ host_count w.old }
     ensures channels { length w.new.links.channels ≡ length w.old.links.channels }
     ensures adopted { w.new.adopted ≡ w.old.adopted }

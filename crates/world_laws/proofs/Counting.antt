@@ -95,6 +95,8 @@ links-plain (LinksChange.repeats k) = refl
 links-plain (LinksChange.holds k) = refl
 links-plain (LinksChange.flips k) = refl
 links-plain (LinksChange.replays k) = refl
+links-plain (LinksChange.pulls k) = refl
+links-plain (LinksChange.plugs k) = refl
 
 host-plain : {w : WorldState} {e : Event} {x : Effect} {h : ℕ} {m : NodeState} → HostChange w e x h m → is_plain x ≡ true
 host-plain HostChange.asks = refl
@@ -139,7 +141,7 @@ change-counts {w = w} (Change.links {x = x} {s = s} k) = plain w (x, with_links 
 change-counts {w = w} (Change.drops {c = c} packet why d e f) = dropped-counts w (with_drop (with_links w (stepped w.links (AdvanceLinks c)))) (cause_at_switch why) refl refl refl refl refl
 change-counts {w = w} (Change.arrives {c = c} packet h d e f k) = arrival-counts w k (stepped w.links (AdvanceLinks c)) (hear h (host_count w) (node_at w h) packet.wire).1
 change-counts {w = w} (Change.host {x = x} {h = h} {m = m} k) = plain w (x, with_node w h m) (host-plain k) refl refl refl refl refl
-change-counts {w = w} (Change.injects {h = h} c out d e f g) = injection-counts w h c out
+change-counts {w = w} (Change.injects {h = h} c out d e f g o) = injection-counts w h c out
 change-counts {w = w} (Change.calls {h = h} {port = port} {call = call} k) = plain w (of_call w h port call) refl refl refl refl refl refl
 
 pub step-counts : (w : WorldState) (e : Event) → Counts w (step w e)

@@ -1,8 +1,9 @@
 -- An event is idle exactly in its cases, and then leaves the world as it was.
 use Rattle.std.proofs.Common.{◌≡◌, ◌≤◌, ◌+◌, ◌*◌, ℕ, Bool, true, false, not, ◌&&◌, ◌||◌, ℤ, List, length, nat_lt, nat_le, Option, Some, None, is_some, refl, sym, ◌∙◌, ap, arith, true≢false, if◌then◌else◌}
 use Rattle.std.proofs.lemmas.Bool.Decides.{nat_tests}
+use Rattle.net_defs.specs.Network.{far}
 use Rattle.net_defs.specs.Route.{host_port}
-use Rattle.cable_history.specs.Crossed.{leaving}
+use Rattle.cable_history.specs.Crossed.{leaving, is_new}
 use Rattle.net_defs.proofs.Growing.{no_some}
 use Rattle.packet_defs.specs.Burst.{flipped as flipped_bytes, may_flip}
 use Rattle.link_defs.specs.declared.moved.Course.{Course}
@@ -13,10 +14,10 @@ use Rattle.link_defs.specs.declared.replayed.Replayed.{Replayed}
 use Rattle.link_defs.specs.declared.replayed.Replayed.TheVariants.{Back, Busy}
 use Rattle.link_defs.specs.Links.{Held, Caught, LinkState, packet_in, with_packet, emptied}
 use Rattle.link_defs.specs.Advance.{course, entered, gone_on, advance_of, advance}
-use Rattle.link_defs.specs.Fault.{lose, repeat, repeat_of, hold, hold_of, flip, flip_of, is_used_up, with_caught, caught_as, released, replay_of}
+use Rattle.link_defs.specs.Fault.{lose, repeat, repeat_of, hold, hold_of, flip, flip_of, is_used_up, with_caught, caught_as, released, replay_of, pull_by, pull, plug}
 use Rattle.mapping_defs.specs.Mapping.{RoutePart}
 use Rattle.world_defs.specs.declared.event.Event.{Event}
-use Rattle.world_defs.specs.declared.event.Event.TheVariants.{Ask, Part, Inject, Advance, Lose, Repeat, Hold, Flip, Replay, Reset, Expire, GiveUp, Begin, Close, Provide, Send, Poll, Revoke}
+use Rattle.world_defs.specs.declared.event.Event.TheVariants.{Ask, Part, Inject, Advance, Lose, Repeat, Hold, Flip, Replay, Reset, Expire, GiveUp, Begin, Close, Provide, Send, Poll, Revoke, Pull, Plug}
 use Rattle.world_defs.specs.declared.effect.Cause.{Cause}
 use Rattle.world_defs.specs.declared.effect.Effect.{Effect}
 use Rattle.world_defs.specs.declared.effect.Effect.TheVariants.{Idle, Injected, Expired, GaveUp, Lost, Reset as WasReset, Flipped, Repeated, Held as WasHeld, Said}
@@ -24,12 +25,13 @@ use Rattle.world_defs.specs.declared.effect.Said.TheVariants.{Done}
 use Rattle.world_defs.specs.declared.arrival.Arrival.{Arrival}
 use Rattle.world_defs.specs.declared.arrival.Arrival.TheVariants.{Heard as Hears, Dropped as HostDropped, NotMine as ArrivalNotMine}
 use Rattle.world_defs.specs.Table.{Adoption, part_for, route_of}
-use Rattle.world_defs.specs.Node.{NodeState, Outgoing, to_send, given_up, node_expired, unacknowledged_to}
+use Rattle.world_defs.specs.Node.{NodeState, Outgoing, is_message, to_send, given_up, node_expired, unacknowledged_to}
 use Rattle.world_defs.specs.Hearing.{hear}
 use Rattle.world_defs.specs.Client.{Called, begun, closed, provided_by, sent_by, polled_by}
-use Rattle.world_defs.specs.World.{WorldState, host_count, last_count, node_at, with_node, with_links, client_at}
-use Rattle.world_defs.specs.Step.{of_links, of_limbo, of_replay, lost, was_reset, repeated, held, flipped, replayed, asked, stage_at, stage_part, part_staged, planned_strikes, sent_out, inject_one, inject_into, injected, cause_at_switch, arrived, advanced_by, advanced, expired, gave_up, gives_up_epoch, revoke_of, revoked, of_call, wanted, step}
-use Rattle.world_laws.specs.Idle.{has_part, HasNoPart, CannotInject, IsEmpty, CannotCatch, CannotFlip, CannotReplay, HasNothingStaged, IsIdleCase}
+use Rattle.world_defs.specs.World.{WorldState, fabric_of, host_count, last_count, node_at, with_node, with_links, client_at, keeps_out}
+use Rattle.world_defs.specs.Step.{of_links, of_limbo, of_replay, lost, was_reset, repeated, held, flipped, replayed, pulled, plugged, asked, stage_at, stage_part, part_staged, planned_strikes, sent_out, inject_one, inject_into, injected, cause_at_switch, arrived, advanced_by, advanced, expired, gave_up, gives_up_epoch, revoke_of, revoked, of_call, wanted, step}
+use Rattle.world_laws.specs.Idle.{has_part, HasNoPart, CannotInject, IsEmpty, CannotCatch, CannotFlip, CannotReplay, CannotPlug, HasNothingStaged, IsIdleCase}
+use Rattle.world_laws.proofs.Joining.{pull-none, plug-cannot}
 
 -- what comes of an event is idle exactly in a case, and then the world is as it was
 pub record IdleBy (w : WorldState) (C : Type 0) (r : Effect × WorldState) : Type 0 where
@@ -214,22 +216,34 @@ adopted-idle w dst part None e = idle_case w (HasNoPart w dst part) (HasNoPart.n
 adopted-idle w dst part (Some a) e = part-idle w dst part a e (part_for a dst part) (route_of a.routes a.mapper dst) refl refl
 
 -- an injection
-inject_case : (w : WorldState) (h c : ℕ) (out : Outgoing) → leaving w.links.cables (host_port h) ≡ Some c → to_send h (node_at w h) ≡ Some out → is_some (packet_in w.links c) ≡ false → nat_le last_count w.injected ≡ false → CannotInject w h → ⊥
-inject_case w h c out there e f g (CannotInject.no_cable is) = some_none c (sym there ∙ is)
-inject_case w h c out there e f g (CannotInject.nothing_to_send is) = some_none out (sym e ∙ is)
-inject_case w h c out there e f g (CannotInject.channel_full d is full) =
+inject_case : (w : WorldState) (h c : ℕ) (out : Outgoing) → leaving w.links.cables (host_port h) ≡ Some c → to_send h (node_at w h) ≡ Some out → is_some (packet_in w.links c) ≡ false → nat_le last_count w.injected ≡ false → keeps_out w c out ≡ false → CannotInject w h → ⊥
+inject_case w h c out there e f g o (CannotInject.no_cable is) = some_none c (sym there ∙ is)
+inject_case w h c out there e f g o (CannotInject.nothing_to_send is) = some_none out (sym e ∙ is)
+inject_case w h c out there e f g o (CannotInject.channel_full d is full) =
     let same : c ≡ d = some-one c d (sym there ∙ is) in
     true≢false (sym full ∙ (ap (λ x. is_some (packet_in w.links x)) (sym same) ∙ f))
-inject_case w h c out there e f g (CannotInject.used_up is) = grind (arith, nat_tests)
+inject_case w h c out there e f g o (CannotInject.used_up is) = grind (arith, nat_tests)
+inject_case w h c out there e f g o (CannotInject.new_cable d other is new sends message) =
+    let channel : d ≡ c = some-one d c (sym is ∙ there) in
+    let same : other ≡ out = some-one other out (sym sends ∙ e) in
+    let kept : keeps_out w d other ≡ true = rw (new, message) refl in
+    true≢false (sym kept ∙ ((λ i. keeps_out w (channel i) (same i)) ∙ o))
 
 inject_one-idle : (w : WorldState) (h c : ℕ) (o : Option Outgoing) → leaving w.links.cables (host_port h) ≡ Some c → to_send h (node_at w h) ≡ o → IdleBy w (CannotInject w h) (inject_one w h c o)
 inject_one-idle w h c None there e = idle_case w (CannotInject w h) (CannotInject.nothing_to_send e)
-inject_one-idle w h c (Some out) there e = by (is_some (packet_in w.links c)) (nat_le last_count w.injected) refl refl
+inject_one-idle w h c (Some out) there e = by (is_some (packet_in w.links c)) (nat_le last_count w.injected) (keeps_out w c out) refl refl refl
   where
-    by : (a b : Bool) → is_some (packet_in w.links c) ≡ a → nat_le last_count w.injected ≡ b → IdleBy w (CannotInject w h) (if a || b then (let r : Effect × WorldState = (Idle, w) in r) else (Injected (w.injected + 1), planned_strikes (sent_out w h c out) c))
-    by true b f g = idle_case w (CannotInject w h) (CannotInject.channel_full c there f)
-    by false true f g = idle_case w (CannotInject w h) (CannotInject.used_up (grind (arith, nat_tests)))
-    by false false f g = busy_case w (CannotInject w h) (Injected (w.injected + 1), planned_strikes (sent_out w h c out) c) (inject_case w h c out there e f g) (injected_busy (w.injected + 1))
+    message : (n m : Bool) → is_new w.links.cables c ≡ n → is_message out ≡ m → (n && m) ≡ true → CannotInject w h
+    message true true p q k = CannotInject.new_cable c out there p e q
+    message true false p q k = absurd (true≢false (sym k))
+    message false m p q k = absurd (true≢false (sym k))
+
+    by : (a b k : Bool) → is_some (packet_in w.links c) ≡ a → nat_le last_count w.injected ≡ b → keeps_out w c out ≡ k
+        → IdleBy w (CannotInject w h) (if a || b || k then (let r : Effect × WorldState = (Idle, w) in r) else (Injected (w.injected + 1), planned_strikes (sent_out w h c out) c))
+    by true b k f g o = idle_case w (CannotInject w h) (CannotInject.channel_full c there f)
+    by false true k f g o = idle_case w (CannotInject w h) (CannotInject.used_up (grind (arith, nat_tests)))
+    by false false true f g o = idle_case w (CannotInject w h) (message (is_new w.links.cables c) (is_message out) refl refl o)
+    by false false false f g o = busy_case w (CannotInject w h) (Injected (w.injected + 1), planned_strikes (sent_out w h c out) c) (inject_case w h c out there e f g o) (injected_busy (w.injected + 1))
 
 inject_into-idle : (w : WorldState) (h : ℕ) (o : Option ℕ) → leaving w.links.cables (host_port h) ≡ o → IdleBy w (CannotInject w h) (inject_into w h o)
 inject_into-idle w h None e = idle_case w (CannotInject w h) (CannotInject.no_cable e)
@@ -267,7 +281,7 @@ empty-idle : (w : WorldState) (c : ℕ) (x : Effect) → (x ≡ Idle → ⊥) �
 empty-idle w c x busy = of_links-idle w (IsEmpty w c) x (lose w.links c) busy (λ e. ap is_some e) (λ e. no_some (packet_in w.links c) e)
 
 pub step-idle : (w : WorldState) (e : Event) → IdleBy w (IsIdleCase w e) (step w e)
-unfolding lost was_reset repeated held flipped replayed asked part_staged injected advanced expired gave_up revoked
+unfolding lost was_reset repeated held flipped replayed pulled plugged asked part_staged injected advanced expired gave_up revoked
 step-idle w (Ask h walk looped) = busy_case w ⊥ (step w (Ask h walk looped)) (λ c. c) staged_busy
 step-idle w (Part dst part) = adopted-idle w dst part w.adopted refl
 step-idle w (Inject h) = inject_into-idle w h (leaving w.links.cables (host_port h)) refl
@@ -288,3 +302,5 @@ step-idle w (Provide h port size prio) = called-idle w h port (provided_by (node
 step-idle w (Send h port dest dport prio len seed) = called-idle w h port (sent_by (node_at w h) (wanted port dest dport prio len seed) (client_at w h port))
 step-idle w (Poll h port) = called-idle w h port (polled_by (node_at w h) port (client_at w h port))
 step-idle w (Revoke h) = revoke-idle w h w.adopted refl
+step-idle w (Pull at) = let k = pull-none w at in of_links-idle w (far (fabric_of w) at ≡ None) (Said Done) (pull w.links at) done_busy k.0 k.1
+step-idle w (Plug a b) = let k = plug-cannot w a b in of_links-idle w (CannotPlug w a b) (Said Done) (plug w.links a b) done_busy k.0 k.1

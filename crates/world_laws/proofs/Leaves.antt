@@ -1,8 +1,9 @@
--- What an event leaves of a world: one step of packets in the links, one host changed, one packet dropped, one injection, one call of a client, or what of
+-- What an event leaves of a world: one step in the links, one host changed, one packet dropped, one injection, one call of a client, or what of
 -- these follows each other. Whatever holds from a world to the next at each of these holds at every event.
 use Rattle.std.proofs.Common.{◌≡◌, ◌<◌, ℕ, false, Some, refl}
+use Rattle.cable_history.specs.Later.{IsLater}
+use Rattle.cable_history.proofs.Later.{pulled-later}
 use Rattle.link_defs.specs.Links.{LinkState}
-use Rattle.link_defs.specs.Laws.{is_of_cables}
 use Rattle.link_defs.specs.Step.{Step, Advance as AdvanceLinks, stepped}
 use Rattle.world_defs.specs.declared.event.Event.{Event}
 use Rattle.world_defs.specs.declared.event.Event.TheVariants.{Begin, Close, Provide, Send, Poll}
@@ -16,7 +17,8 @@ use Rattle.world_defs.specs.World.{WorldState, host_count, last_count, node_at, 
 use Rattle.world_defs.specs.Step.{planned_strikes, sent_out, gives_up_epoch, step}
 use Rattle.world_defs.proofs.Views.{HostChange, CallChange, ArrivalChange, Change, view}
 use Rattle.world_defs.proofs.Calls.{call_view}
-use Rattle.world_defs.proofs.Kept.{links-of_packets}
+use Rattle.world_defs.proofs.Kept.{links-later}
+use Rattle.link_defs.proofs.Later.{packets-only}
 use Rattle.world_laws.proofs.Nodes.{NodeKept, hear-kept, given_up-kept, table-kept, staged-kept, node_expired-kept}
 use Rattle.world_laws.proofs.Calls.{CallKept, call-kept}
 
@@ -24,7 +26,7 @@ use Rattle.world_laws.proofs.Calls.{CallKept, call-kept}
 pub record Follows (R : WorldState → WorldState → Type 0) : Type 0 where
   pub same : (w : WorldState) → R w w
   pub both : (u v w : WorldState) → R u v → R v w → R u w
-  pub links : (w : WorldState) (x : Step) → is_of_cables x ≡ false → R w (with_links w (stepped w.links x))
+  pub links : (w : WorldState) (x : Step) → IsLater w.links.cables (stepped w.links x).cables → R w (with_links w (stepped w.links x))
   pub node : (w : WorldState) (h : ℕ) (n : NodeState) → NodeKept (node_at w h) n → R w (with_node w h n)
   pub drop : (w : WorldState) → R w (with_drop w)
   pub injection : (w : WorldState) (h c : ℕ) (out : Outgoing) → w.injected < last_count → to_send h (node_at w h) ≡ Some out → R w (planned_strikes (sent_out w h c out) c)
@@ -50,14 +52,14 @@ module _ (R : WorldState → WorldState → Type 0) (f : Follows R) (w : WorldSt
   change-leaves : {e : Event} {r : Effect × WorldState} → ((h port : ℕ) (call : Called) → CallChange w e h port call → R w (with_client (with_node w h call.node) h port call.client)) → Change w e r → R w r.1
   change-leaves calls Change.idle = f.same w
   change-leaves calls (Change.blocked packet next d e) = f.same w
-  change-leaves calls (Change.links {s = s} k) = f.links w s (links-of_packets k)
-  change-leaves calls (Change.drops {c = c} packet why d e g) = let u : WorldState = with_links w (stepped w.links (AdvanceLinks c)) in f.both w u (with_drop u) (f.links w (AdvanceLinks c) refl) (f.drop u)
+  change-leaves calls (Change.links {s = s} k) = f.links w s (links-later k)
+  change-leaves calls (Change.drops {c = c} packet why d e g) = let u : WorldState = with_links w (stepped w.links (AdvanceLinks c)) in f.both w u (with_drop u) (f.links w (AdvanceLinks c) (pulled-later (packets-only w.links (AdvanceLinks c) refl))) (f.drop u)
   change-leaves calls (Change.arrives {c = c} packet h d e g k) =
       let l : LinkState = stepped w.links (AdvanceLinks c) in
       let m : NodeState = (hear h (host_count w) (node_at w h) packet.wire).1 in
-      arrival-leaves k l m (f.both w (with_links w l) (with_node (with_links w l) h m) (f.links w (AdvanceLinks c) refl) (f.node (with_links w l) h m (hear-kept h (host_count w) (node_at w h) packet.wire)))
+      arrival-leaves k l m (f.both w (with_links w l) (with_node (with_links w l) h m) (f.links w (AdvanceLinks c) (pulled-later (packets-only w.links (AdvanceLinks c) refl))) (f.node (with_links w l) h m (hear-kept h (host_count w) (node_at w h) packet.wire)))
   change-leaves calls (Change.host k) = host-leaves k
-  change-leaves calls (Change.injects {h = h} c out d e none left) = f.injection w h c out left e
+  change-leaves calls (Change.injects {h = h} c out d e none left o) = f.injection w h c out left e
   change-leaves calls (Change.calls {h = h} {port = port} {call = call} k) = calls h port call k
 
 -- an event that is no client's call

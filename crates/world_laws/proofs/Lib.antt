@@ -4,6 +4,7 @@ pub mod Calls
 pub mod Strikes
 pub mod Leaves
 pub mod Shapes
+pub mod Joining
 pub mod Idling
 pub mod Repeating
 pub mod Draining
@@ -16,3 +17,4 @@ pub mod Meanings
 pub mod Resting
 pub mod Counting
 pub mod Resets
+pub mod Unplanned

@@ -1,12 +1,12 @@
 -- Tests over all hosts, and what they say of each.
-use Rattle.std.proofs.Common.{◌≡◌, ◌≢◌, ◌↔◌, ◌<◌, ◌≤◌, ◌+◌, ℕ, zero, suc, Bool, true, false, ◌||◌, List, [], ◌∷◌, map, length, nat_eq, nat_lt, Option, Some, None, is_none, inl, inr, refl, sym, ◌∙◌, ap, subst, arith, true≢false}
+use Rattle.std.proofs.Common.{◌≡◌, ◌≢◌, ◌↔◌, ◌<◌, ◌≤◌, ◌+◌, ℕ, zero, suc, Bool, true, false, not, ◌||◌, List, [], ◌∷◌, map, length, nat_eq, nat_lt, inl, inr, refl, sym, ◌∙◌, ap, subst, arith, true≢false}
 use Rattle.std.specs.List.{AllByRecursion, range_with_len, list_all, list_any}
 use Rattle.std.proofs.lemmas.Bool.Decides.{nat_tests}
 use Rattle.net_defs.proofs.Ends.{both}
 use Rattle.link_defs.specs.Links.{Caught}
-use Rattle.world_defs.specs.Node.{lane_of, sending_lane, lane_at, to_send, unacknowledged_to}
+use Rattle.world_defs.specs.Node.{lane_of, sending_lane, lane_at, unacknowledged_to}
 use Rattle.world_defs.proofs.Lanes.{lane-within}
-use Rattle.world_defs.specs.World.{WorldState, host_count, node_at, addresses, sum_of}
+use Rattle.world_defs.specs.World.{WorldState, host_count, node_at, addresses, has_to_send, sum_of}
 use Rattle.world_defs.specs.Settle.{unacknowledged_from, unacknowledged_in, is_quiet, base_of, rose_to, base_rose}
 use Rattle.world_defs.specs.Settled.{IsSettled, IsSettledConnection}
 use Rattle.world_laws.specs.Shape.{HasSenders}
@@ -62,9 +62,9 @@ of-none f [] all = refl
 of-none f (n ∷ ns) all = let rest = of-none f ns all.1 in let here : f n ≡ 0 = all.0 in omega (arith, here, rest)
 
 -- the tests
-none_is : {X : Type 0} (o : Option X) → is_none o ≡ true → o ≡ None
-none_is None e = refl
-none_is (Some x) e = absurd (true≢false (sym e))
+not-is : (b : Bool) → not b ≡ true → b ≡ false
+not-is true e = absurd (true≢false (sym e))
+not-is false e = refl
 
 nil_is : (es : List (ℕ × Caught)) → nat_eq (length es) 0 ≡ true → es ≡ []
 nil_is [] e = refl
@@ -74,17 +74,17 @@ pub quiet-test : (w : WorldState) → is_quiet w ≡ true ↔ IsQuiet w
 quiet-test w = (to, from)
   where
     t : ℕ → Bool
-    t = λ h. is_none (to_send h (node_at w h))
+    t = λ h. not (has_to_send w h)
 
     to : is_quiet w ≡ true → IsQuiet w
     to e =
         let two = both (list_all t (addresses w)) (nat_eq (length w.links.limbo) 0) e in
         let all = range-all (λ h. t h ≡ true) (host_count w) (all-of t (addresses w) two.0) in
-        record { empty_limbo = nil_is w.links.limbo two.1; nothing_to_send = λ h low. none_is (to_send h (node_at w h)) (all h low) }
+        record { empty_limbo = nil_is w.links.limbo two.1; nothing_to_send = λ h low. not-is (has_to_send w h) (all h low) }
 
     from : IsQuiet w → is_quiet w ≡ true
     from q =
-        let hosts : list_all t (addresses w) ≡ true = of-all t (addresses w) (range-from (λ h. t h ≡ true) 0 (host_count w) (λ h low. ap is_none (q.nothing_to_send h (omega (arith, low))))) in
+        let hosts : list_all t (addresses w) ≡ true = of-all t (addresses w) (range-from (λ h. t h ≡ true) 0 (host_count w) (λ h low. ap not (q.nothing_to_send h (omega (arith, low))))) in
         let limbo : nat_eq (length w.links.limbo) 0 ≡ true = ap (λ es. nat_eq (length es) 0) q.empty_limbo in
         rw (hosts, limbo) refl
 

@@ -13,7 +13,7 @@ use Rattle.world_defs.specs.declared.event.Event.TheVariants.{Inject, Advance, R
 use Rattle.world_defs.specs.declared.effect.Effect.{Effect}
 use Rattle.world_defs.specs.declared.effect.Effect.TheVariants.{Idle, Injected}
 use Rattle.world_defs.specs.Node.{Outgoing, to_send, packet_for}
-use Rattle.world_defs.specs.World.{WorldState, last_count, node_at, addresses}
+use Rattle.world_defs.specs.World.{WorldState, last_count, node_at, addresses, keeps_out}
 use Rattle.world_defs.specs.Step.{of_replay, replayed, planned_strikes, sent_out, inject_one, inject_into, injected, step, steps, after_all}
 use Rattle.world_defs.specs.Drain.{changed, changes}
 use Rattle.world_defs.specs.Settle.{serials, is_quiet, pass_bound, expiries}
@@ -52,6 +52,8 @@ links-calm (LinksChange.repeats k) q = absurd q
 links-calm (LinksChange.holds k) q = absurd q
 links-calm (LinksChange.flips k) q = absurd q
 links-calm (LinksChange.replays k) q = absurd q
+links-calm (LinksChange.pulls k) q = absurd q
+links-calm (LinksChange.plugs k) q = absurd q
 
 change-calm : {w : WorldState} {e : Event} {r : Effect × WorldState} → Change w e r → IsCalm e → Calm w r.1
 change-calm {w = w} Change.idle q = calm_same w
@@ -60,7 +62,7 @@ change-calm (Change.links k) q = record { injected = refl; limbo = links-calm k 
 change-calm (Change.drops packet why d e f) q = record { injected = refl; limbo = ap (λ l. l.limbo) f; plan = refl }
 change-calm (Change.arrives packet h d e f k) q = record { injected = refl; limbo = ap (λ l. l.limbo) f; plan = refl }
 change-calm (Change.host k) q = record { injected = refl; limbo = refl; plan = refl }
-change-calm (Change.injects c out d e f g) q = absurd q
+change-calm (Change.injects c out d e f g o) q = absurd q
 change-calm (Change.calls k) q = record { injected = refl; limbo = refl; plan = refl }
 
 event-calm : (w : WorldState) (e : Event) → IsCalm e → Calm w (step w e).1
@@ -114,15 +116,16 @@ injected-cost w h c out low =
 
 inject_one-cost : (w : WorldState) (h c : ℕ) (o : Option Outgoing) → one_if (changed (inject_one w h c o).0) + measure (inject_one w h c o).1 ≤ measure w
 inject_one-cost w h c None = omega arith
-inject_one-cost w h c (Some out) = by (is_some (packet_in w.links c)) (nat_le last_count w.injected) refl
+inject_one-cost w h c (Some out) = by (is_some (packet_in w.links c)) (nat_le last_count w.injected) (keeps_out w c out) refl
   where
     new : WorldState
     new = planned_strikes (sent_out w h c out) c
 
-    by : (a b : Bool) → nat_le last_count w.injected ≡ b → one_if (changed (if a || b then (let r : Effect × WorldState = (Idle, w) in r) else (Injected (w.injected + 1), planned_strikes (sent_out w h c out) c)).0) + measure (if a || b then (let r : Effect × WorldState = (Idle, w) in r) else (Injected (w.injected + 1), planned_strikes (sent_out w h c out) c)).1 ≤ measure w
-    by true b g = omega arith
-    by false true g = omega arith
-    by false false g = injected-cost w h c out (grind (arith, nat_tests))
+    by : (a b k : Bool) → nat_le last_count w.injected ≡ b → one_if (changed (if a || b || k then (let r : Effect × WorldState = (Idle, w) in r) else (Injected (w.injected + 1), planned_strikes (sent_out w h c out) c)).0) + measure (if a || b || k then (let r : Effect × WorldState = (Idle, w) in r) else (Injected (w.injected + 1), planned_strikes (sent_out w h c out) c)).1 ≤ measure w
+    by true b k g = omega arith
+    by false true k g = omega arith
+    by false false true g = omega arith
+    by false false false g = injected-cost w h c out (grind (arith, nat_tests))
 
 inject_into-cost : (w : WorldState) (h : ℕ) (o : Option ℕ) → one_if (changed (inject_into w h o).0) + measure (inject_into w h o).1 ≤ measure w
 inject_into-cost w h None = omega arith

@@ -58,7 +58,7 @@ pub follows-going : Follows Going
 follows-going = record {
   same = λ w. going_on_nodes w w (nodes_same w w refl) refl refl;
   both = going_both;
-  links = λ w x packets. going_on_nodes w (with_links w (stepped w.links x)) (nodes_same w (with_links w (stepped w.links x)) refl) refl refl;
+  links = λ w x later. going_on_nodes w (with_links w (stepped w.links x)) (nodes_same w (with_links w (stepped w.links x)) refl) refl refl;
   node = λ w h n k. going_on_nodes w (with_node w h n) (with_node-kept w h n k) refl refl;
   drop = λ w. going_on_nodes w (with_drop w) (nodes_same w (with_drop w) refl) refl refl;
   injection = λ w h c out low e.

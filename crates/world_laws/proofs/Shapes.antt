@@ -1,13 +1,14 @@
--- Every event leaves a world of the same cables, with the numbers of each connection in order.
+-- Every event leaves a world of later cables, with the numbers of each connection in order.
 use Rattle.std.proofs.Common.{◌≡◌, ◌<◌, ◌≤◌, ◌+◌, ◌^◌, ℕ, zero, suc, Bool, true, false, if◌then◌else◌, List, [], ◌∷◌, length, replicate, get_or, set, Option, Some, None, is_some, refl, sym, ◌∙◌, ap, subst, arith}
 use Rattle.std.proofs.Math.ListN.{length-set}
 use Rattle.std.proofs.lemmas.List.{length-replicate}
 use Rattle.net_defs.specs.declared.route.Route.{Route}
 use Rattle.net_defs.specs.Network.{Network}
+use Rattle.cable_history.specs.Later.{IsLater}
+use Rattle.cable_history.proofs.Later.{pulled-later, later-on, later-kept}
 use Rattle.link_defs.specs.Links.{LinkState}
 use Rattle.link_defs.specs.Fault.{accept}
 use Rattle.link_defs.specs.Shape.{IsLinks}
-use Rattle.link_defs.specs.Laws.{is_of_cables}
 use Rattle.link_defs.specs.Step.{Step, Put, Accept as AcceptLinks, stepped}
 use Rattle.link_defs.proofs.Shapes.{empty-links, stepped-cables, stepped-links}
 use Rattle.gm_defs.specs.Connection.{IsSender, starting}
@@ -29,7 +30,7 @@ use Rattle.world_laws.proofs.Leaves.{Follows, FollowsCalls, step-leaves}
 
 -- what every event keeps
 pub record Kept (w v : WorldState) : Type 0 where
-  pub cables : v.links.cables ≡ w.links.cables
+  pub later : IsLater w.links.cables v.links.cables
   pub world : IsWorld w → IsWorld v
   pub senders : HasSenders w → HasSenders v
 
@@ -68,23 +69,23 @@ made_of w v is links same k clients injections drops strikes harms = record {
   harms = harms;
 }
 
-made_world : (w v : WorldState) → IsWorld w → IsLinks v.links → v.links.cables ≡ w.links.cables → NodesKept w v → v.clients ≡ w.clients → v.injected < 2 ^ 64 → v.dropped < 2 ^ 64 → v.struck ≤ v.injected → v.harmed ≤ v.struck → IsWorld v
-made_world w v is links cables k clients injections drops strikes harms = made_of w v is links (ap (λ h. h.hosts) cables) k clients injections drops strikes harms
+made_world : (w v : WorldState) → IsWorld w → IsLinks v.links → IsLater w.links.cables v.links.cables → NodesKept w v → v.clients ≡ w.clients → v.injected < 2 ^ 64 → v.dropped < 2 ^ 64 → v.struck ≤ v.injected → v.harmed ≤ v.struck → IsWorld v
+made_world w v is links later k clients injections drops strikes harms = made_of w v is links (later-kept later).hosts k clients injections drops strikes harms
 
 pub made_senders : (w v : WorldState) → NodesKept w v → HasSenders w → HasSenders v
 made_senders w v k is = record { in_order = λ h lane. ((k.each h).senders lane).in_order (is.in_order h lane) }
 
-kept_links : (w : WorldState) (x : Step) → is_of_cables x ≡ false → Kept w (with_links w (stepped w.links x))
-kept_links w x packets = record {
-  cables = stepped-cables w.links x packets;
-  world = λ is. made_world w (with_links w (stepped w.links x)) is (stepped-links w.links x is.links) (stepped-cables w.links x packets) (nodes_same w (with_links w (stepped w.links x)) refl) refl is.injections is.drops is.strikes is.harms;
+kept_links : (w : WorldState) (x : Step) → IsLater w.links.cables (stepped w.links x).cables → Kept w (with_links w (stepped w.links x))
+kept_links w x later = record {
+  later = later;
+  world = λ is. made_world w (with_links w (stepped w.links x)) is (stepped-links w.links x is.links) later (nodes_same w (with_links w (stepped w.links x)) refl) refl is.injections is.drops is.strikes is.harms;
   senders = made_senders w (with_links w (stepped w.links x)) (nodes_same w (with_links w (stepped w.links x)) refl);
 }
 
 kept_node : (w : WorldState) (h : ℕ) (n : NodeState) → NodeKept (node_at w h) n → Kept w (with_node w h n)
 kept_node w h n k = record {
-  cables = refl;
-  world = λ is. made_world w (with_node w h n) is is.links refl (with_node-kept w h n k) refl is.injections is.drops is.strikes is.harms;
+  later = IsLater.still;
+  world = λ is. made_world w (with_node w h n) is is.links IsLater.still (with_node-kept w h n k) refl is.injections is.drops is.strikes is.harms;
   senders = made_senders w (with_node w h n) (with_node-kept w h n k);
 }
 
@@ -93,8 +94,8 @@ counted-below n = omega arith
 
 kept_drop : (w : WorldState) → Kept w (with_drop w)
 kept_drop w = record {
-  cables = refl;
-  world = λ is. made_world w (with_drop w) is is.links refl (nodes_same w (with_drop w) refl) refl is.injections (counted-below w.dropped) is.strikes is.harms;
+  later = IsLater.still;
+  world = λ is. made_world w (with_drop w) is is.links IsLater.still (nodes_same w (with_drop w) refl) refl is.injections (counted-below w.dropped) is.strikes is.harms;
   senders = made_senders w (with_drop w) (nodes_same w (with_drop w) refl);
 }
 
@@ -137,8 +138,9 @@ injected-kept : (w u v : WorldState) → w.injected < last_count → SentOut w u
 injected-kept w u v low s t =
     let nodes : NodesKept w v = struck_nodes w u v s.nodes t.nodes in
     let now : v.injected ≡ w.injected + 1 = t.injected ∙ s.injected in
+    let later : IsLater w.links.cables v.links.cables = subst (λ h. IsLater h v.links.cables) s.cables (pulled-later t.links.pulled) in
     record {
-      cables = t.links.cables ∙ s.cables;
+      later = later;
       world = λ is.
           let a = is.strikes in
           let b = is.harms in
@@ -147,7 +149,7 @@ injected-kept w u v low s t =
           let e = s.struck in
           let f = s.harmed in
           let g = t.rises in
-          made_world w v is (t.links.links (s.links is.links)) (t.links.cables ∙ s.cables) nodes (t.clients ∙ s.clients) (omega (arith, low, now)) (subst (λ n. n < 2 ^ 64) (sym (t.dropped ∙ s.dropped)) is.drops) (omega (arith, a, c, e, now)) (omega (arith, b, d, e, f, g));
+          made_world w v is (t.links.links (s.links is.links)) later nodes (t.clients ∙ s.clients) (omega (arith, low, now)) (subst (λ n. n < 2 ^ 64) (sym (t.dropped ∙ s.dropped)) is.drops) (omega (arith, a, c, e, now)) (omega (arith, b, d, e, f, g));
       senders = made_senders w v nodes;
     }
 
@@ -157,8 +159,8 @@ kept_injection w h c out low e =
 
 pub follows-kept : Follows Kept
 follows-kept = record {
-  same = λ w. record { cables = refl; world = λ is. is; senders = λ is. is };
-  both = λ u v w k l. record { cables = l.cables ∙ k.cables; world = λ is. l.world (k.world is); senders = λ is. l.senders (k.senders is) };
+  same = λ w. record { later = IsLater.still; world = λ is. is; senders = λ is. is };
+  both = λ u v w k l. record { later = later-on k.later l.later; world = λ is. l.world (k.world is); senders = λ is. l.senders (k.senders is) };
   links = kept_links;
   node = kept_node;
   drop = kept_drop;
@@ -211,7 +213,7 @@ called_senders w h port call k is = record {
 }
 
 pub follows_calls-kept : FollowsCalls Kept
-follows_calls-kept w h port call k = record { cables = refl; world = called_world w h port call k; senders = called_senders w h port call k }
+follows_calls-kept w h port call k = record { later = IsLater.still; world = called_world w h port call k; senders = called_senders w h port call k }
 
 -- the laws
 pub step-kept : (w : WorldState) (e : Event) → Kept w (step w e).1
@@ -296,7 +298,7 @@ adopted-senders w mapper routes is = made_senders w (adopted_by w mapper routes)
 pub planned-world : (w : WorldState) (ahead : ℕ) (fault : Fault) → IsWorld w → IsWorld (planned w ahead fault).1
 planned-world w ahead fault is =
     let v : WorldState = (planned w ahead fault).1 in
-    made_world w v is is.links refl (nodes_same w v refl) refl is.injections is.drops is.strikes is.harms
+    made_world w v is is.links IsLater.still (nodes_same w v refl) refl is.injections is.drops is.strikes is.harms
 
 pub planned-senders : (w : WorldState) (ahead : ℕ) (fault : Fault) → HasSenders w → HasSenders (planned w ahead fault).1
 planned-senders w ahead fault is = let v : WorldState = (planned w ahead fault).1 in made_senders w v (nodes_same w v refl) is

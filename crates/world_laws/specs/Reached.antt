@@ -1,5 +1,6 @@
 -- A drain, a clear and a settle are events in a row: what holds after every list of events holds after each of them.
 use Rattle.std.specs.Prelude.{◌≡◌, false, List, [], ◌∷◌}
+use Rattle.cable_history.specs.Later.{OnlyPulled}
 use Rattle.link_defs.specs.Hops.{is_stuck}
 use Rattle.world_defs.specs.declared.event.Event.{Event}
 use Rattle.world_defs.specs.declared.event.Event.TheVariants.{Inject, Advance, Replay, Reset, Expire, GiveUp}
@@ -52,13 +53,21 @@ abbrev pub NeverStuckHasNoResets : Type 0
 NeverStuckHasNoResets = (w : WorldState) → EachStep (λ v e. is_stuck v.links ≡ false) w (settle w).events
     → (settle w).value.resets ≡ 0
 
--- What events keep: the cables, a world, and the numbers of each connection in order.
+-- What events keep that aren't plugs: cables are pulled at most, a world stays, and the numbers of each connection in
+-- order.
 pub record IsKept (w v : WorldState) : Type 0 where
-  pub cables : v.links.cables ≡ w.links.cables
+  pub pulled : OnlyPulled w.links.cables v.links.cables
   pub world : IsWorld w → IsWorld v
   pub senders : HasSenders w → HasSenders v
 
--- a drain keeps them
+-- a drain and a clear leave the cables
+abbrev pub DrainKeepsCables : Type 0
+DrainKeepsCables = (w : WorldState) → (drain w).world.links.cables ≡ w.links.cables
+
+abbrev pub ClearKeepsCables : Type 0
+ClearKeepsCables = (w : WorldState) → (clear w).world.links.cables ≡ w.links.cables
+
+-- a drain keeps all this
 abbrev pub DrainKeeps : Type 0
 DrainKeeps = (w : WorldState) → IsKept w (drain w).world
 

@@ -1,15 +1,15 @@
 -- What the tests of a settle say, and a world in which nothing is left to acknowledge.
-use Rattle.std.specs.Prelude.{◌≡◌, ◌↔◌, ℕ, ◌<◌, true, [], None}
-use Rattle.world_defs.specs.Node.{to_send, unacknowledged_to}
-use Rattle.world_defs.specs.World.{WorldState, host_count, node_at}
+use Rattle.std.specs.Prelude.{◌≡◌, ◌↔◌, ℕ, ◌<◌, true, false, []}
+use Rattle.world_defs.specs.Node.{unacknowledged_to}
+use Rattle.world_defs.specs.World.{WorldState, host_count, node_at, has_to_send}
 use Rattle.world_defs.specs.Settle.{is_quiet, unacknowledged_in, base_of, base_rose}
 use Rattle.world_defs.specs.Settled.{IsSettled}
 use Rattle.world_laws.specs.Shape.{HasSenders}
 
--- Nothing is in limbo, and no host has anything to send.
+-- Nothing is in limbo, and no host has anything to send that its cable takes.
 pub record IsQuiet (w : WorldState) : Type 0 where
   pub empty_limbo : w.links.limbo ≡ []
-  pub nothing_to_send : (h : ℕ) → h < host_count w → to_send h (node_at w h) ≡ None
+  pub nothing_to_send : (h : ℕ) → h < host_count w → has_to_send w h ≡ false
 
 -- the test of a pass: the world is quiet after it
 abbrev pub QuietTest : Type 0

@@ -1,7 +1,7 @@
 //! A drain, a clear and a settle are events in a row: `specs/Reached.antt` has the statements.
 
 ghost use Rattle.world_laws.specs.Reached.{DrainIsRow, ClearIsRow, SettleIsRow, NeverStuckHasNoResets};
-ghost use Rattle.world_laws.specs.Reached.{DrainKeeps, ClearKeeps, SettleKeeps};
+ghost use Rattle.world_laws.specs.Reached.{DrainKeepsCables, ClearKeepsCables, DrainKeeps, ClearKeeps, SettleKeeps};
 
 /// A drain, a clear and a settle are events of their kinds, in a row.
 pub fn rows_of_events()
@@ -15,8 +15,10 @@ pub fn resets_of_settles()
     ensures { NeverStuckHasNoResets }
 {}
 
-/// So they leave a world of the same fabric, with its connections in order.
+/// So they leave a world with its connections in order, and plug nothing; a drain and a clear leave the cables.
 pub fn kept_by_rows()
+    ensures drain_cables { DrainKeepsCables }
+    ensures clear_cables { ClearKeepsCables }
     ensures drain { DrainKeeps }
     ensures clear { ClearKeeps }
     ensures settle { SettleKeeps }

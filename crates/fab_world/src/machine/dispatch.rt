@@ -1,6 +1,7 @@
-//! Each event, by what it is.
+//! Each event that leaves the cables, by what it is.
 
 ghost use Rattle.std.specs.Prelude.{◌≡◌, ◌≤◌, length, true, false, IfOk, IfSome, OnErr};
+ghost use Rattle.world_defs.specs.Cables.{is_of_cables};
 ghost use Rattle.world_defs.specs.World.{fabric_of, host_count, planned};
 ghost use Rattle.world_defs.specs.Step.{step};
 ghost use Rattle.adopted_routes.specs.Adopting.{IsSetOfHosts};
@@ -13,10 +14,11 @@ use std::alloc::{AllocError, Global};
 use world_defs::{Effect, Event, Fault};
 
 impl Machine {
-    /// One event: its effect, and links and hosts after it. Running out of memory changes nothing, and hides no refusal
-    /// of a client's call.
+    /// An event that leaves the cables: its effect, and links and hosts after it. Running out of memory changes nothing,
+    /// and hides no refusal of a client's call.
     pub(crate) fn step(&mut self, alloc: Global, e: &Event) -> Result<Effect, AllocError>
         requires given { IsGiven self.old e.now }
+        requires still { is_of_cables e.now ≡ false }
         requires hosts { host_count self.old ≡ length (fabric_of self.old).hosts }
         requires routes { IfSome self.old.adopted (IsSetOfHosts (host_count self.old)) }
         ensures ok { IfOk result (λ x. step self.old e.now ≡ (x, self.new)) }
@@ -31,7 +33,6 @@ impl Machine {
                 Ok(Effect::Staged)
             }
             Event::Part { dst, part } => self.part(alloc, *dst, *part),
-            Event::Inject(host) => self.inject(alloc, *host),
             Event::Advance(c) => self.advance(alloc, *c),
             Event::Lose(c) => Ok(self.links.lose(*c)),
             Event::Repeat(c) => self.links.repeat(alloc, *c),

@@ -1,8 +1,9 @@
 //! A host puts a packet into its channel.
 
-ghost use Rattle.std.specs.Prelude.{◌≡◌, ◌<◌, ◌+◌, length, true, Some, option_map, IfOk, OnOk, OnErr};
-ghost use Rattle.world_defs.specs.Node.{to_send, packet_for};
-ghost use Rattle.world_defs.specs.World.{WorldState, node_at};
+ghost use Rattle.std.specs.Prelude.{◌≡◌, ◌<◌, ◌+◌, ◌&&◌, not, length, true, Some, option_map, IfOk, OnOk, OnErr};
+ghost use Rattle.cable_history.specs.Crossed.{is_new};
+ghost use Rattle.world_defs.specs.Node.{to_send, packet_for, has_staged};
+ghost use Rattle.world_defs.specs.World.{WorldState, node_at, may_send, has_to_send};
 ghost use Rattle.world_defs.specs.Step.{injected, inject_one, planned_strikes};
 ghost use Rattle.faulty_links.specs.Held.{of_world, with_part, can_inject, put_under_next};
 ghost use Rattle.fab_world.specs.Events.{IsHostOf, IsChannelOf};
@@ -42,11 +43,47 @@ impl Machine {
         if !self.links.can_inject(c) {
             return Ok(Effect::Idle);
         }
+        if self.is_kept_out(host, c) {
+            return Ok(Effect::Idle);
+        }
         let number = self.links.injected() + 1;
         match self.at(host).stage(alloc, number)? {
             Some(packet) => self.put(alloc, host, c, packet),
             None => Ok(Effect::Idle),
         }
+    }
+
+    // The channel's cable is new, and the host has messages alone to send, if anything.
+    fn is_kept_out(&self, host: u16, c: u16) -> bool
+        requires there { IsHostOf self.now host }
+        requires channel { IsChannelOf self.now c }
+        ensures { result ≡ (is_new self.now.links.cables c && not (has_staged (node_at self.now host))) }
+    {
+        self.links.is_new(c) && !self.at(host).has_staged()
+    }
+
+    /// Whether a host has something to send that its cable doesn't keep out, if it has one.
+    pub(crate) fn has_to_send(&self, host: u16) -> bool
+        requires { IsHostOf self.now host }
+        ensures { result ≡ has_to_send self.now host }
+    {
+        let port = End {
+            v: Vertex::Host(host),
+            p: 0,
+        };
+        match self.links.channel_from(port) {
+            Some(c) => self.may_send(host, c),
+            None => false,
+        }
+    }
+
+    // The same where this is the host's channel.
+    fn may_send(&self, host: u16, c: u16) -> bool
+        requires there { IsHostOf self.now host }
+        requires channel { IsChannelOf self.now c }
+        ensures { result ≡ may_send self.now c (to_send host (node_at self.now host)) }
+    {
+        self.at(host).has_to_send() && !self.is_kept_out(host, c)
     }
 
     // The packet of what the host sends first enters its channel, and counts as sent.
@@ -60,6 +97,7 @@ impl Machine {
         requires there { IsHostOf self.old host }
         requires channel { IsChannelOf self.old c }
         requires free { can_inject (of_world self.old) c ≡ true }
+        requires may { may_send self.old c (to_send host (node_at self.old host)) ≡ true }
         requires first { Some packet ≡ option_map (packet_for host (self.old.injected + 1))
             (to_send host (node_at self.old host)) }
         ensures ok { IfOk result (λ x. inject_one self.old host c (to_send host (node_at self.old host))

@@ -1,14 +1,16 @@
 //! Planned faults, and the injections that they strike.
 
-ghost use Rattle.std.specs.Prelude.{◌≡◌, ◌<◌, ◌≤◌, ◌+◌, length, true, None, IfOk, IfErr, OnOk, OnErr};
+ghost use Rattle.std.specs.Prelude.{◌≡◌, ◌<◌, ◌≤◌, ◌+◌, length, nat_eq, true, None, IfOk, IfErr, OnOk, OnErr};
+ghost use Rattle.std.specs.Map.{lookup};
 ghost use Rattle.link_defs.specs.Links.{packet_in, put};
 ghost use Rattle.world_defs.specs.World.{WorldState, planned};
 ghost use Rattle.world_defs.specs.Step.{fault_on, is_harm, planned_strikes};
-ghost use Rattle.faulty_links.specs.Held.{with_part, can_inject, put_under_next};
+ghost use Rattle.faulty_links.specs.Held.{with_part, can_inject, pull_end, put_under_next};
 
 use super::FaultyLinks;
 use link_model::Links;
 use myri_packet::Packet;
+use net_defs::End;
 use std::alloc::{AllocError, Global};
 use world_defs::{Effect, Fault};
 
@@ -24,6 +26,13 @@ impl FaultyLinks {
         let number = u128::from(self.counts.injected()) + u128::from(ahead);
         self.plan.put(number, fault)?;
         Ok(number)
+    }
+
+    /// The port of the pull that is planned for the next injection; none where another fault is planned, or no fault.
+    pub fn next_pull(&self) -> Option<End>
+        ensures { result ≡ pull_end (lookup (nat_eq (self.now.injected + 1)) self.now.plan) }
+    {
+        self.plan.pull_at(u128::from(self.counts.injected()) + 1)
     }
 
     /// Puts a packet into an empty channel under the next number; the fault that is planned for this injection
@@ -85,7 +94,7 @@ fn put_under(
     }
 }
 
-// A fault strikes a channel's packet: whether it was possible.
+// A fault strikes a channel's packet, or the cable at its port: whether it was possible.
 fn strike(links: &mut Links, alloc: Global, c: u16, fault: Fault) -> Result<bool, AllocError>
     requires { c < length links.old.channels }
     ensures strikes { IfOk result (λ b. b ≡ (fault_on links.old c fault).0) }
@@ -97,6 +106,7 @@ fn strike(links: &mut Links, alloc: Global, c: u16, fault: Fault) -> Result<bool
         Fault::Repeat => Ok(links.repeat(alloc, c)?.is_some()),
         Fault::Hold => Ok(links.hold(c)?.is_some()),
         Fault::Flip { bit, pattern } => links.flip(c, bit, pattern),
+        Fault::Pull { at } => Ok(links.pull(at)),
     }
 }
 
@@ -106,6 +116,6 @@ const fn is_harm(fault: Fault) -> bool
 {
     match fault {
         Fault::Lose | Fault::Hold | Fault::Flip { .. } => true,
-        Fault::Repeat => false,
+        Fault::Repeat | Fault::Pull { .. } => false,
     }
 }

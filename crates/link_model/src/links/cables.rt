@@ -1,10 +1,11 @@
 //! Cables are pulled, plugged and accepted.
 
-ghost use Rattle.std.specs.Prelude.{◌≡◌, ◌<◌, length, IfOk, OnOk, OnErr};
+ghost use Rattle.std.specs.Prelude.{◌≡◌, ◌<◌, length, slice_get, Some, IfOk, OnOk, OnErr};
 ghost use Rattle.cable_history.specs.Crossed.{is_new};
 ghost use Rattle.link_defs.specs.Fault.{pull, plug, accept};
 
 use super::Links;
+use cable_history::Wire;
 use net_defs::End;
 use std::alloc::AllocError;
 
@@ -57,6 +58,14 @@ impl Links {
         ensures { result ≡ self.now.cables.changes }
     {
         self.wiring.changes()
+    }
+
+    /// The cable of a number, with the changes that plugged and pulled it.
+    pub fn wire(&self, k: u16) -> Wire
+        requires { k < length self.now.cables.wires }
+        ensures { slice_get self.now.cables.wires k ≡ Some result }
+    {
+        self.wiring.wire(k)
     }
 
     /// Whether a channel's cable was plugged since the cables were accepted.

@@ -4,6 +4,7 @@ use Rattle.world_defs.specs.World.{fabric_of}
 use Rattle.run_defs.specs.declared.command.Command.{Command}
 use Rattle.run_defs.specs.declared.figure.Figure.{Figure}
 use Rattle.fabric_run.specs.Generated.{HaveCounted}
+use Rattle.fabric_run.proofs.Naming.{on-vertices}
 use Rattle.fabric_run.proofs.Counting.{none-counted, more-counted}
 use Rattle.fabric_run.proofs.generated.run_commands.Goals as goal
 
@@ -13,7 +14,7 @@ loop-command-init c =
     record {
       counted = subst (λ (figures : List Figure). HaveCounted n [] figures c.args.session) (sym c.new-figures.ensures.items)
           (none-counted n c.args.commands.now c.args.session c.requires.fresh);
-      fabric = refl;
+      vertices = (refl, refl);
     }
 
 pub loop-command-preserved : goal.loop-command-preserved
@@ -26,5 +27,5 @@ loop-command-preserved c =
       counted = subst (λ k. HaveCounted n (take k cs) c.run_command.new.figures.items c.in_ok-session.session) next
           (more-counted n cs i c.loop-command.session c.in_ok-session.session c.command-item.result c.loop-command.figures.items c.run_command.new.figures.items
           c.loop-command-test.true c.command-item.is c.loop-command.invariant.counted c.in_ok-session.ensures.counted);
-      fabric = c.in_ok-session.ensures.fabric ∙ c.loop-command.invariant.fabric;
+      vertices = on-vertices n c.loop-command.session c.in_ok-session.session c.loop-command.invariant.vertices c.in_ok-session.ensures.vertices;
     }

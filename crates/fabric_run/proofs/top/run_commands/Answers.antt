@@ -9,13 +9,14 @@ use Rattle.run_session.specs.Obeyed.{IsObeyedIn}
 use Rattle.fabric_run.specs.Ends.{HaveRun}
 use Rattle.fabric_run.specs.declared.status.Status.TheVariants.{WriteFault, NoMemory}
 use Rattle.fabric_run.proofs.Endings.{report-so}
+use Rattle.fabric_run.proofs.Naming.{on-vertices}
 use Rattle.fabric_run.proofs.Writing.{none-ran, more-ran, cut-ran, interrupted, rose-earlier, on_err, on_ok}
 use Rattle.fabric_run.proofs.top.run_commands.Goals as goal
 
 pub loop-command-init : goal.loop-command-init
 loop-command-init g c = record {
   ran = none-ran (fabric_of c.args.session.world) c.args.commands.now (g.K.Sink.taken c.args.out.now) c.args.session c.requires.fresh;
-  fabric = refl;
+  vertices = (refl, refl);
   later = omega arith;
 }
 
@@ -42,7 +43,7 @@ returns-then-is_err-clause-ends g c =
     c.with_session-then-is_err.ensures.status c.with_session-then-is_err.ensures.some (
       rose-earlier _ _ _ c.loop-command.invariant.later (on_err c.write_all.result _ c.if-is_err.ensures.value c.write_all.ensures.cause.failed),
       cut-ran n cs c.loop-command.command-index _ _ _ c.loop-command.session c.in-Ok.next c.command-item.result p
-          c.loop-command-test.true c.command-item.is c.loop-command.invariant.ran c.loop-command.invariant.fabric obeyed.1 part,
+          c.loop-command-test.true c.command-item.is c.loop-command.invariant.ran c.loop-command.invariant.vertices obeyed.1 part,
     )
 
 pub loop-command-preserved : goal.loop-command-preserved
@@ -60,7 +61,7 @@ loop-command-preserved g c =
     record {
       ran = subst (λ k. HaveRun n (take k cs) (g.K.Sink.taken c.args.out.now) (g.K.Sink.taken c.write_all.new.sink) c.in-Ok.next) next
           (more-ran n cs i _ _ _ c.loop-command.session c.in-Ok.next c.command-item.result p
-          c.loop-command-test.true c.command-item.is c.loop-command.invariant.ran c.loop-command.invariant.fabric obeyed.1 all);
-      fabric = c.in-Ok.ensures.fabric ∙ c.loop-command.invariant.fabric;
+          c.loop-command-test.true c.command-item.is c.loop-command.invariant.ran c.loop-command.invariant.vertices obeyed.1 all);
+      vertices = on-vertices n c.loop-command.session c.in-Ok.next c.loop-command.invariant.vertices c.in-Ok.ensures.cables.vertices;
       later = omega (arith, c.loop-command.invariant.later, c.write_all.ensures.cause.later);
     }

@@ -1,4 +1,4 @@
-use Rattle.install_laws.proofs.TwoHosts.{both-can_install, both-counted, part-missed, answer-missed, second-counts}
+use Rattle.install_laws.proofs.TwoHosts.{both-can_install, both-counted, part-missed, answer-missed, second-counts, cut-missed}
 use Rattle.install_laws.proofs.worked.lost_packets.Goals as goal
 
 pub returns-clause-can : goal.returns-clause-can
@@ -15,3 +15,6 @@ returns-clause-answer c = answer-missed
 
 pub returns-clause-second_try : goal.returns-clause-second_try
 returns-clause-second_try c = second-counts
+
+pub returns-clause-cut : goal.returns-clause-cut
+returns-clause-cut c = cut-missed

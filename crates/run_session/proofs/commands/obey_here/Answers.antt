@@ -1,8 +1,8 @@
-use Rattle.std.proofs.Common.{Option, OnErr, refl, sym, ap, subst}
+use Rattle.std.proofs.Common.{◌≡◌, Option, OnErr, refl, sym, ap, subst}
 use Rattle.std.specs.Prelude.{IfErr}
 use Rattle.world_defs.specs.World.{WorldState}
 use Rattle.run_defs.specs.Outcome.{outcome}
-use Rattle.run_defs.specs.declared.command.Command.TheVariants.{Install, Settle}
+use Rattle.run_defs.specs.declared.command.Command.TheVariants.{Walk, Install, Settle}
 use Rattle.run_defs.specs.Session.{SessionState, LastMap, LastRoutes}
 use Rattle.promise_laws.specs.CutShort.{IsCutShort}
 use Rattle.promise_laws.proofs.CutShort.{cut_unchanged, cut_settled, cut_installed}
@@ -14,12 +14,13 @@ use Rattle.world_commands.proofs.Done.{one-event}
 use Rattle.world_drain.proofs.Later.{on-any, on-err}
 use Rattle.run_session.specs.Obeyed.{IsObeyed}
 use Rattle.run_session.proofs.Cutting.{cut_one}
+use Rattle.run_session.proofs.Going.{goes-later}
 use Rattle.run_session.proofs.Leaving.{none-unrefused, one-unrefused, busy-missing}
 use Rattle.run_session.proofs.Obeying.{done_so}
 use Rattle.run_session.proofs.commands.obey_here.Goals as goal
 
 pub do_one-requires-clause-one_event : goal.do_one-requires-clause-one_event
-do_one-requires-clause-one_event c = one-event c.args.c.now c.in_default.not-Map c.in_default.not-Circuit c.in_default.not-Routes c.in_default.not-Install c.in_default.not-Settle c.requires.other
+do_one-requires-clause-one_event c = one-event c.args.c.now c.in_default.not-Walk c.in_default.not-Map c.in_default.not-Circuit c.in_default.not-Routes c.in_default.not-Install c.in_default.not-Settle c.requires.other
 
 pub returns-in-Map-clause-cut : goal.returns-in-Map-clause-cut
 returns-in-Map-clause-cut c = on-any c.busy_text.result (cut_unchanged (session_of c.args.w.now c.args.last_map.now c.args.last_routes.now) c.args.c.now c.args.w.now c.requires.busy refl)
@@ -41,6 +42,24 @@ returns-in-Settle-clause-cut c =
     let s : SessionState = session_of c.args.w.now c.args.last_map.now c.args.last_routes.now in
     subst (λ d. OnErr c.settle_text.result (IsCutShort s d c.settle_text.new.w)) (sym c.in-Settle.is)
     (on-err c.settle_text.result (cut_settled s c.settle_text.new.w) c.settle_text.ensures.err)
+
+pub returns-in-Walk-clause-cut : goal.returns-in-Walk-clause-cut
+returns-in-Walk-clause-cut c =
+    let w : WorldState = c.args.w.now in
+    let made = c.args.last_map.now in
+    let found = c.args.last_routes.now in
+    let same : Walk c.in-Walk.host c.turns.result.now ≡ c.args.c.now = cc (c.in-Walk.is, c.turns.ensures.value) in
+    if-err-on c.walk_text.result (IsLeft c.args.c.now w w) (IsCutShort (session_of w made found) c.args.c.now w) (cut_one w w made found c.args.c.now c.requires.busy)
+    (subst (λ d. IfErr c.walk_text.result (λ e. IsLeft d w w e)) same c.walk_text.ensures.err)
+
+pub returns-in-Walk-clause-unrefused : goal.returns-in-Walk-clause-unrefused
+returns-in-Walk-clause-unrefused c =
+    let w : WorldState = c.args.w.now in
+    let made = c.args.last_map.now in
+    let found = c.args.last_routes.now in
+    let same : Walk c.in-Walk.host c.turns.result.now ≡ c.args.c.now = cc (c.in-Walk.is, c.turns.ensures.value) in
+    if-err c.walk_text.result (IsLeft c.args.c.now w w) (HidesNoRefusal (session_of w made found) c.args.c.now w) (one-unrefused w w made found c.args.c.now)
+    (subst (λ d. IfErr c.walk_text.result (λ e. IsLeft d w w e)) same c.walk_text.ensures.err)
 
 pub returns-in-Map-clause-unrefused : goal.returns-in-Map-clause-unrefused
 returns-in-Map-clause-unrefused c =
@@ -83,8 +102,8 @@ returns-in_default c =
       obeyed = if-ok c.do_one.result (λ p. IsDone c.args.c.now w v p) (λ p. IsObeyed (session_of w made found) c.args.c.now (session_of v made found) p)
           (λ p done. done_so c.args.c.now c.args.c.now w v made found p done refl) c.do_one.ensures.done;
       routes = c.requires.routes;
-      links = c.do_one.ensures.links;
-      fabric = c.do_one.ensures.fabric;
+      links = c.requires.links;
+      cables = goes-later w v c.do_one.ensures.cables;
       err = on-any c.do_one.result refl;
       cut = if-err-on c.do_one.result (IsLeft c.args.c.now w v) (IsCutShort (session_of w made found) c.args.c.now v) (cut_one w v made found c.args.c.now c.requires.busy) c.do_one.ensures.err;
       unrefused = if-err c.do_one.result (IsLeft c.args.c.now w v) (HidesNoRefusal (session_of w made found) c.args.c.now v) (one-unrefused w v made found c.args.c.now) c.do_one.ensures.err;

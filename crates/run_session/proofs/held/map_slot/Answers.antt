@@ -1,10 +1,10 @@
 use Rattle.std.proofs.Common.{◌≡◌, ◌∙◌, Option, Some, IfOk, OnErr, sym, ap, subst}
-use Rattle.world_defs.specs.World.{WorldState, fabric_of}
+use Rattle.world_defs.specs.World.{WorldState}
 use Rattle.run_defs.specs.Session.{LastRoutes}
 use Rattle.promise_laws.specs.CutShort.{IsCutShort}
 use Rattle.world_commands.specs.Done.{session_of}
 use Rattle.run_session.specs.Holding.{world_in}
-use Rattle.run_session.specs.Kept.{IsLastMap}
+use Rattle.run_session.specs.Kept.{IsLastMap, GoesOn}
 use Rattle.run_session.specs.Obeyed.{IsObeyed}
 use Rattle.run_session.specs.Told.{map_of}
 use Rattle.run_session.proofs.held.map_slot.Goals as goal
@@ -12,7 +12,7 @@ use Rattle.run_session.proofs.held.map_slot.Goals as goal
 pub map-world-requires-clause-kept : goal.map-world-requires-clause-kept
 map-world-requires-clause-kept c =
     let before : world_in c.args.slot.now ≡ c.in-Some.world = cc (c.requires.there) in
-    subst (λ (w : WorldState). IsLastMap (fabric_of w) c.args.last_map.now) before c.requires.kept
+    subst (λ (w : WorldState). IsLastMap w.links.cables c.args.last_map.now) before c.requires.kept
 
 pub returns-clause-there : goal.returns-clause-there
 returns-clause-there c = c.replace.ensures.after ∙ ap (λ (w : WorldState). Some w) (sym (ap world_in c.replace.ensures.after))
@@ -28,13 +28,14 @@ returns-clause-obeyed c =
 
 pub returns-clause-kept : goal.returns-clause-kept
 returns-clause-kept c =
-    let before : c.in-Some.world ≡ world_in c.args.slot.now = cc (c.requires.there) in
-    subst (λ (w : WorldState). IsLastMap (fabric_of w) c.map-world.new.last_map) before c.map-world.ensures.kept
+    let after : c.map-world.result.0 ≡ world_in c.replace.new.self = sym (ap world_in c.replace.ensures.after) in
+    subst (λ (w : WorldState). IsLastMap w.links.cables c.map-world.new.last_map) after c.map-world.ensures.kept
 
-pub returns-clause-fabric : goal.returns-clause-fabric
-returns-clause-fabric c =
+pub returns-clause-cables : goal.returns-clause-cables
+returns-clause-cables c =
     let before : c.in-Some.world ≡ world_in c.args.slot.now = cc (c.requires.there) in
-    ap fabric_of (ap world_in c.replace.ensures.after) ∙ c.map-world.ensures.fabric ∙ ap fabric_of before
+    let after : c.map-world.result.0 ≡ world_in c.replace.new.self = sym (ap world_in c.replace.ensures.after) in
+    subst (λ (v : WorldState). GoesOn (world_in c.args.slot.now) v) after (subst (λ (w : WorldState). GoesOn w c.map-world.result.0) before c.map-world.ensures.cables)
 
 pub returns-clause-cut : goal.returns-clause-cut
 returns-clause-cut c =

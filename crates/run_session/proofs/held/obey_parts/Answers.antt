@@ -1,29 +1,58 @@
 use Rattle.std.proofs.Common.{◌≡◌, ◌∙◌, IfOk, OnErr, sym, ap, subst}
 use Rattle.std.specs.Prelude.{IfErr}
-use Rattle.link_defs.specs.Links.{empty_links, is_idle}
-use Rattle.world_defs.specs.World.{WorldState, fabric_of}
+use Rattle.link_defs.specs.Links.{is_idle}
+use Rattle.world_defs.specs.World.{WorldState}
 use Rattle.run_defs.specs.Session.{SessionState}
 use Rattle.promise_laws.specs.CutShort.{IsCutShort}
 use Rattle.world_commands.specs.Cut.{HidesNoRefusal}
 use Rattle.world_commands.specs.Done.{session_of}
 use Rattle.world_commands.proofs.Cut.{in-doing}
-use Rattle.run_session.specs.Holding.{world_in}
-use Rattle.run_session.specs.Kept.{IsLastMap}
+use Rattle.run_session.specs.Holding.{world_in, AreWalkLinks}
+use Rattle.run_session.specs.Kept.{IsLastMap, AreLastRoutes, GoesOn}
 use Rattle.run_session.specs.Obeyed.{IsObeyed}
-use Rattle.run_session.proofs.Keeping.{kept-over}
+use Rattle.run_session.proofs.Going.{kept-over, links-over, routes-over}
 use Rattle.run_session.proofs.Leaving.{map-unrefused}
 use Rattle.run_session.proofs.held.obey_parts.Goals as goal
+
+pub map_slot-requires-clause-kept : goal.map_slot-requires-clause-kept
+map_slot-requires-clause-kept c =
+    let there : world_in c.args.slot.now ≡ c.in-Some.world = cc (c.requires.there) in
+    subst (λ (w : WorldState). IsLastMap w.links.cables c.args.last_map.now) there c.requires.kept.complete
+
+pub obey_here-requires-clause-map : goal.obey_here-requires-clause-map
+obey_here-requires-clause-map c =
+    let there : world_in c.args.slot.now ≡ c.in-Some.world = cc (c.requires.there) in
+    subst (λ (w : WorldState). IsLastMap w.links.cables c.args.last_map.now) there c.requires.kept.complete
+
+pub obey_here-requires-clause-routes : goal.obey_here-requires-clause-routes
+obey_here-requires-clause-routes c =
+    let there : world_in c.args.slot.now ≡ c.in-Some.world = cc (c.requires.there) in
+    subst (λ (w : WorldState). AreLastRoutes w.links.cables c.args.last_routes.now) there c.requires.kept.routes
 
 pub returns-in-None-clause-kept : goal.returns-in-None-clause-kept
 returns-in-None-clause-kept c =
     let there : world_in c.args.slot.now ≡ c.in-Some.world = cc (c.requires.there) in
-    let complete = subst (λ (w : WorldState). IsLastMap (fabric_of w) c.args.last_map.now) there c.requires.kept.complete in
-    kept-over c.in-Some.world c.obey_here.new.w c.args.last_map.now c.obey_here.new.last_routes c.obey_here.ensures.fabric complete c.obey_here.ensures.routes
+    let complete = subst (λ (w : WorldState). IsLastMap w.links.cables c.args.last_map.now) there c.requires.kept.complete in
+    kept-over c.in-Some.world c.obey_here.new.w c.args.last_map.now c.obey_here.new.last_routes c.obey_here.ensures.cables complete c.obey_here.ensures.routes
 
 pub returns-in-None-clause-links : goal.returns-in-None-clause-links
 returns-in-None-clause-links c =
+    links-over c.in-Some.world c.obey_here.new.w c.obey_here.new.links c.obey_here.ensures.cables c.obey_here.ensures.links
+
+pub returns-in-Some-map_ordered-clause-kept : goal.returns-in-Some-map_ordered-clause-kept
+returns-in-Some-map_ordered-clause-kept c =
     let there : world_in c.args.slot.now ≡ c.in-Some.world = cc (c.requires.there) in
-    c.obey_here.ensures.links ∙ c.requires.links ∙ ap (λ (w : WorldState). empty_links (fabric_of w)) there ∙ sym (ap empty_links c.obey_here.ensures.fabric)
+    let routes = subst (λ (w : WorldState). AreLastRoutes w.links.cables c.args.last_routes.now) there c.requires.kept.routes in
+    record {
+      complete = c.map_slot.ensures.kept;
+      routes = λ l e. routes-over c.in-Some.world (world_in c.map_slot.new.slot) l c.map_slot.ensures.cables (routes l e);
+    }
+
+pub returns-in-Some-map_ordered-clause-links : goal.returns-in-Some-map_ordered-clause-links
+returns-in-Some-map_ordered-clause-links c =
+    let there : world_in c.args.slot.now ≡ c.in-Some.world = cc (c.requires.there) in
+    links-over c.in-Some.world (world_in c.map_slot.new.slot) c.args.links.now c.map_slot.ensures.cables
+    (subst (λ (w : WorldState). AreWalkLinks w.links.cables c.args.links.now) there c.requires.links)
 
 pub returns-in-None-clause-obeyed : goal.returns-in-None-clause-obeyed
 returns-in-None-clause-obeyed c =
@@ -31,10 +60,10 @@ returns-in-None-clause-obeyed c =
     let after : SessionState = session_of c.obey_here.new.w c.args.last_map.now c.obey_here.new.last_routes in
     subst (λ (w : WorldState). IfOk c.obey_here.result (λ p. IsObeyed (session_of w c.args.last_map.now c.args.last_routes.now) c.args.c.now after p)) (sym there) c.obey_here.ensures.obeyed
 
-pub returns-in-None-clause-fabric : goal.returns-in-None-clause-fabric
-returns-in-None-clause-fabric c =
+pub returns-in-None-clause-cables : goal.returns-in-None-clause-cables
+returns-in-None-clause-cables c =
     let there : world_in c.args.slot.now ≡ c.in-Some.world = cc (c.requires.there) in
-    c.obey_here.ensures.fabric ∙ ap fabric_of (sym there)
+    subst (λ (w : WorldState). GoesOn w c.obey_here.new.w) (sym there) c.obey_here.ensures.cables
 
 pub returns-in-None-clause-unrefused : goal.returns-in-None-clause-unrefused
 returns-in-None-clause-unrefused c =

@@ -35,7 +35,7 @@ returns-clause-told c a is =
     let one : c.deref.result.now ≡ c.deref-2.result.now = c.deref.ensures.value ∙ sym c.deref-2.ensures.value in
     let p = c.in-Ok-print_tables.text in
     counted-told w after c.args.l.now a c.args.tries x.acked x.of c.deref.result.now p is c.in-Ok.ensures.acked c.in-Ok.ensures.after c.in-Ok.ensures.of
-    (c.deref.ensures.value ∙ hosts) c.in-Ok.ensures.fabric
+    (c.deref.ensures.value ∙ hosts) c.in-Ok.ensures.cables
     (subst (λ (hs : List ℕ). p ≡ printed_of (fabric_of after) (lines (Installed x.acked x.of ∷ map (table_line after) hs))) (sym one) c.in-Ok-print_tables.ensures)
 
 pub returns-in_default-clause-err : goal.returns-in_default-clause-err

@@ -23,3 +23,6 @@ pub returns-in-Some-clause-unrefused : goal.returns-in-Some-clause-unrefused
 returns-in-Some-clause-unrefused c =
     subst (λ (last : Option LastRoutes). IfErr c.install_last.result (λ e. (made : Option LastMap) → HidesNoRefusal (session_of c.args.w.now made last) (Install c.args.tries) c.install_last.new.w e))
     (sym c.in-Some.is) c.install_last.ensures.unrefused
+
+pub install_last-requires-clause-kept : goal.install_last-requires-clause-kept
+install_last-requires-clause-kept c = c.requires.kept c.in-Some.l c.in-Some.is

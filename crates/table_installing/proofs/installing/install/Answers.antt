@@ -1,5 +1,7 @@
 use Rattle.std.proofs.Common.{◌≡◌, ap, sym, ◌∙◌, subst, refl, ℕ, None, arith}
 use Rattle.std.specs.Prelude.{Some, IfSome, option_map}
+use Rattle.cable_history.specs.Crossed.{life_channels}
+use Rattle.world_defs.specs.Row.{IsPartWay}
 use Rattle.world_defs.specs.Table.{Adoption}
 use Rattle.world_defs.specs.World.{WorldState, host_count}
 use Rattle.world_defs.proofs.LogViews.{installed}
@@ -7,9 +9,10 @@ use Rattle.world_defs.specs.Log.{came_to}
 use Rattle.world_defs.specs.Logs as log
 use Rattle.log_laws.proofs.Installs.{install-given_up, install-hosts}
 use Rattle.fab_world.specs.Held.{IsLater}
-use Rattle.fab_world.proofs.Moments.{later-adopted, later-channels, set-stays}
+use Rattle.fab_world.proofs.Moments.{later-adopted, set-stays}
 use Rattle.table_installing.proofs.Causes.{idle-behind, tells}
-use Rattle.table_installing.proofs.InstallHosts.{few-hosts, fewer-hosts, adopter-there, told, in-logs, cut-of, hosts-later, adopted-later}
+use Rattle.table_installing.proofs.InstallHosts.{few-hosts, fewer-hosts, adopter-there, told, in-logs, cut-of, hosts-later, adopted-later, cut-pulled, all-pulled}
+use Rattle.world_drain.proofs.Cables.{same-pulled, pulled-channels, channels-stay}
 use Rattle.world_drain.proofs.Later.{later-both, way-later, on-any}
 use Rattle.world_drain.proofs.GivingUp.{given_up-later}
 use Rattle.table_installing.proofs.installing.install.Goals as goal
@@ -20,8 +23,12 @@ returns-in_err-give_up_all-clause-err c =
     on-any c.from_residual.result
     (cut-of c.args.w.now c.give_up_all.new.w c.args.hosts.now c.args.tries c.args.w.now.adopted refl (λ a e. install-given_up a c.args.hosts.now c.args.tries c.args.w.now c.give_up_all.new.w c.in_err-give_up_all.ensures.err))
 
+pub returns-in_err-give_up_all-clause-cables : goal.returns-in_err-give_up_all-clause-cables
+returns-in_err-give_up_all-clause-cables c = same-pulled c.give_up_all.ensures.cables
+
 pub returns-in_err-give_up_all-clause-channels : goal.returns-in_err-give_up_all-clause-channels
-returns-in_err-give_up_all-clause-channels c = later-channels c.args.w.now c.give_up_all.new.w c.moment.ensures.kept (way-later c.args.w.now c.give_up_all.new.w c.in_err-give_up_all.ensures.err)
+returns-in_err-give_up_all-clause-channels c =
+    channels-stay c.args.w.now c.give_up_all.new.w c.moment.ensures.kept (way-later c.args.w.now c.give_up_all.new.w c.in_err-give_up_all.ensures.err) (ap life_channels c.give_up_all.ensures.cables)
 
 pub returns-in_err-give_up_all-clause-adopted : goal.returns-in_err-give_up_all-clause-adopted
 returns-in_err-give_up_all-clause-adopted c = later-adopted c.args.w.now c.give_up_all.new.w (way-later c.args.w.now c.give_up_all.new.w c.in_err-give_up_all.ensures.err)
@@ -50,18 +57,24 @@ cut c =
     let on : IsLater v u = adopted-later v u v.adopted c.in-Some.mapper (sym c.in-Some.ensures) (λ a e. way-later v u (c.in_err-acked-in-Some.ensures.err a e)) in
     later-both c.args.w.now v u (given_up-later c.args.w.now v c.in_ok-give_up_all.ensures.after) on
 
-pub returns-in_err-acked-in-Some-clause-err : goal.returns-in_err-acked-in-Some-clause-err
-returns-in_err-acked-in-Some-clause-err c =
+cut_way : (c : goal.After-from_residual-in_err-acked-in-Some) → IfSome c.args.w.now.adopted (λ a. IsPartWay c.args.w.now (log.install a c.args.hosts.now c.args.tries c.args.w.now).events c.install_hosts.new.w)
+cut_way c =
     let w : WorldState = c.args.w.now in
     let v : WorldState = c.give_up_all.new.w in
     let u : WorldState = c.install_hosts.new.w in
     let same : v.adopted ≡ w.adopted = later-adopted w v (given_up-later w v c.in_ok-give_up_all.ensures.after) in
-    on-any c.from_residual-in_err-acked-in-Some.result
-    (cut-of w u c.args.hosts.now c.args.tries w.adopted refl
-    (λ a e. install-hosts a c.args.hosts.now c.args.tries w v u c.in_ok-give_up_all.ensures.after (c.in_err-acked-in-Some.ensures.err a (same ∙ e))))
+    cut-of w u c.args.hosts.now c.args.tries w.adopted refl
+    (λ a e. install-hosts a c.args.hosts.now c.args.tries w v u c.in_ok-give_up_all.ensures.after (c.in_err-acked-in-Some.ensures.err a (same ∙ e)))
+
+pub returns-in_err-acked-in-Some-clause-err : goal.returns-in_err-acked-in-Some-clause-err
+returns-in_err-acked-in-Some-clause-err c = on-any c.from_residual-in_err-acked-in-Some.result (cut_way c)
+
+pub returns-in_err-acked-in-Some-clause-cables : goal.returns-in_err-acked-in-Some-clause-cables
+returns-in_err-acked-in-Some-clause-cables c = cut-pulled c.args.w.now c.install_hosts.new.w c.args.hosts.now c.args.tries c.args.w.now.adopted c.requires.adopted (cut_way c)
 
 pub returns-in_err-acked-in-Some-clause-channels : goal.returns-in_err-acked-in-Some-clause-channels
-returns-in_err-acked-in-Some-clause-channels c = later-channels c.args.w.now c.install_hosts.new.w c.moment.ensures.kept (cut c)
+returns-in_err-acked-in-Some-clause-channels c =
+    channels-stay c.args.w.now c.install_hosts.new.w c.moment.ensures.kept (cut c) (pulled-channels (returns-in_err-acked-in-Some-clause-cables c))
 
 pub returns-in_err-acked-in-Some-clause-adopted : goal.returns-in_err-acked-in-Some-clause-adopted
 returns-in_err-acked-in-Some-clause-adopted c = later-adopted c.args.w.now c.install_hosts.new.w (cut c)
@@ -109,15 +122,18 @@ returns-clause-after c = (in-logs c.args.w.now c.match-adopter.w c.args.hosts.no
 pub returns-clause-cause : goal.returns-clause-cause
 returns-clause-cause c =
     let w : WorldState = c.args.w.now in
-    tells (host_count w) w c.match-adopter.w c.args.hosts.now c.args.tries c.match-adopter.acked w.adopted refl c.reached.ensures c.moment.ensures.kept.adopted c.requires.idle c.requires.unrevoked c.requires.named c.requires.some (counted c)
+    tells (host_count w) w c.match-adopter.w c.args.hosts.now c.args.tries c.match-adopter.acked w.adopted refl c.reached.ensures c.moment.ensures.kept.adopted c.requires.idle c.requires.unrevoked c.requires.unchanged c.requires.named c.requires.some (counted c)
 
 pub returns-clause-idle : goal.returns-clause-idle
 returns-clause-idle c =
     let w : WorldState = c.args.w.now in
-    idle-behind (host_count w) w c.match-adopter.w c.args.hosts.now c.args.tries c.match-adopter.acked w.adopted refl c.reached.ensures c.moment.ensures.kept.adopted c.requires.idle c.requires.adopted c.requires.unrevoked c.requires.named (counted c)
+    idle-behind (host_count w) w c.match-adopter.w c.args.hosts.now c.args.tries c.match-adopter.acked w.adopted refl c.reached.ensures c.moment.ensures.kept.adopted c.requires.idle c.requires.adopted c.requires.unrevoked c.requires.unchanged c.requires.named (counted c)
+
+pub returns-clause-cables : goal.returns-clause-cables
+returns-clause-cables c = all-pulled c.args.w.now c.match-adopter.w c.args.hosts.now c.args.tries c.args.w.now.adopted c.requires.adopted (returns-clause-after c)
 
 pub returns-clause-channels : goal.returns-clause-channels
-returns-clause-channels c = later-channels c.args.w.now c.match-adopter.w c.moment.ensures.kept (done c)
+returns-clause-channels c = channels-stay c.args.w.now c.match-adopter.w c.moment.ensures.kept (done c) (pulled-channels (returns-clause-cables c))
 
 pub returns-clause-adopted : goal.returns-clause-adopted
 returns-clause-adopted c = later-adopted c.args.w.now c.match-adopter.w (done c)

@@ -46,7 +46,6 @@ serving-init c =
       left = λ a e. serving-none a c.args.tries hosts w i (works ∙ ap (λ o. works_of o hosts) e);
       of_hosts = ap (map (λ (k : Work). k.host)) works ∙ works-hosts w.adopted hosts;
       same_tries = λ j. (c.of_works-installer.ensures j).tries;
-      fabric = refl;
       hosts = refl;
     }
 
@@ -76,7 +75,6 @@ serving-preserved c =
       of_hosts =
           ap (map (λ (x : Work). x.host)) (works-then i after dst part found e c.tell.ensures) ∙ changed-hosts (is_done i.tries) found i.works ∙ k.of_hosts;
       same_tries = tries-then i after dst part found e c.tell.ensures ∙ k.same_tries;
-      fabric = t.fabric ∙ k.fabric;
       hosts = t.hosts ∙ k.hosts;
     }
 

@@ -3,7 +3,7 @@ use Rattle.std.proofs.Common.{◌≡◌, map}
 use Rattle.std.specs.Prelude.{Some}
 use Rattle.std.specs.List.{filter}
 use Rattle.world_defs.specs.Table.{Adoption}
-use Rattle.world_defs.specs.World.{fabric_of, host_count}
+use Rattle.world_defs.specs.World.{host_count}
 use Rattle.table_installing.specs.Installing.{has_parts}
 use Rattle.table_installing.proofs.Serving.{IsServing, tries_left}
 use Rattle.table_installing.proofs.installing.install_hosts.Given as goal
@@ -13,7 +13,6 @@ invariant-serving l = record {
   left : (a : Adoption) → l.fn.w.adopted ≡ Some a → IsServing a l.tries l.hosts l.fn.w l.w l.installer;
   of_hosts : map (λ k. k.host) l.installer.works ≡ filter (has_parts l.fn.w.adopted) l.hosts;
   same_tries : l.installer.tries ≡ l.tries;
-  fabric : fabric_of l.w ≡ fabric_of l.fn.w;
   hosts : host_count l.w ≡ host_count l.fn.w;
 }
 

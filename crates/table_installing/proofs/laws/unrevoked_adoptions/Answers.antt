@@ -1,5 +1,9 @@
 use Rattle.install_laws.proofs.Epochs.{adopted-unrevoked}
+use Rattle.table_installing.proofs.Causes.{adopted-unchanged}
 use Rattle.table_installing.proofs.laws.unrevoked_adoptions.Goals as goal
 
-pub returns : goal.returns
-returns c = adopted-unrevoked
+pub returns-clause-unrevoked : goal.returns-clause-unrevoked
+returns-clause-unrevoked c = adopted-unrevoked
+
+pub returns-clause-unchanged : goal.returns-clause-unchanged
+returns-clause-unchanged c = adopted-unchanged

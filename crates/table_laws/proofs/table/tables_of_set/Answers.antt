@@ -1,4 +1,4 @@
-use Rattle.table_laws.proofs.Dependencies.{tables-of_set, active-of_set, adopted-adoptable, links-of_epoch, parts-of_set}
+use Rattle.table_laws.proofs.Dependencies.{cables-are_history, tables-of_set, active-of_set, adopted-adoptable, links-of_epoch, parts-of_set}
 use Rattle.table_laws.proofs.table.tables_of_set.Goals as goal
 
 pub returns-clause-tables : goal.returns-clause-tables
@@ -15,3 +15,6 @@ returns-clause-epoch c = links-of_epoch
 
 pub returns-clause-parts : goal.returns-clause-parts
 returns-clause-parts c = parts-of_set
+
+pub returns-clause-cables : goal.returns-clause-cables
+returns-clause-cables c = cables-are_history

@@ -17,5 +17,5 @@ trying-preserved c =
     let t = c.in_ok-t.ensures in
     let none : is_some (log.host_try c.args.mapper c.args.walk.now c.trying.w).value.found ≡ false = ap is_some (sym t.found) ∙ sym c.is_some.ensures ∙ c.if-is_some.false in
     trying-on is_some None (log.host_try c.args.mapper c.args.walk.now) c.args.tries c.args.w.now c.trying.w c.host_try.new.w c.trying.left _ c.trying.harmed c.both-harmed.result
-    c.trying.invariant c.trying-test.true refl none t.after (host_try-row {Q = IsByteEvent} byte_asks (λ h walk looped. tt) c.args.mapper c.args.walk.now c.trying.w).there t.fabric t.hosts
+    c.trying.invariant c.trying-test.true refl none t.after (host_try-row {Q = IsByteEvent} byte_asks (λ h walk looped. tt) c.args.mapper c.args.walk.now c.trying.w).there t.hosts
     (c.both-harmed.ensures ∙ ap (λ b. c.trying.harmed && b) t.harmed)

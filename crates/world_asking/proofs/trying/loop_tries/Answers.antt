@@ -16,5 +16,5 @@ trying-preserved c =
     let t = c.in_ok-t.ensures in
     let none : (log.loop_try c.args.mapper c.args.walk.now c.trying.w).value.found ≡ false = sym t.found ∙ c.if-t.false in
     trying-on (λ b. b) false (log.loop_try c.args.mapper c.args.walk.now) c.args.tries c.args.w.now c.trying.w c.loop_try.new.w c.trying.left _ c.trying.harmed c.both-harmed.result
-    c.trying.invariant c.trying-test.true refl none t.after (loop_try-row {Q = IsByteEvent} byte_asks (λ h walk looped. tt) c.args.mapper c.args.walk.now c.trying.w).there t.fabric t.hosts
+    c.trying.invariant c.trying-test.true refl none t.after (loop_try-row {Q = IsByteEvent} byte_asks (λ h walk looped. tt) c.args.mapper c.args.walk.now c.trying.w).there t.hosts
     (c.both-harmed.ensures ∙ ap (λ b. c.trying.harmed && b) t.harmed)

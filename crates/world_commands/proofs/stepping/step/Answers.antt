@@ -1,4 +1,5 @@
 use Rattle.std.proofs.Common.{sym}
+use Rattle.cable_history.specs.Later.{IsLater}
 use Rattle.run_defs.specs.declared.command.Command.TheVariants.{Step}
 use Rattle.world_commands.specs.Cut.{IsLeft, IsEventLeft}
 use Rattle.world_commands.proofs.Answered.{if-err}
@@ -13,3 +14,6 @@ returns-in-Some-clause-err c =
 
 pub returns-in-None-clause-err : goal.returns-in-None-clause-err
 returns-in-None-clause-err c = in-line c.one_line.result (IsLeft (Step c.args.line) c.args.w.now c.args.w.now) (idle_left c.args.w.now c.args.line (sym c.in-None.ensures.event)) c.one_line.ensures.err
+
+pub returns-in-None-clause-cables : goal.returns-in-None-clause-cables
+returns-in-None-clause-cables c = IsLater.still

@@ -1,6 +1,10 @@
+use Rattle.std.proofs.Common.{ap}
+use Rattle.cable_history.specs.Crossed.{life_channels}
+use Rattle.world_defs.specs.Logs as log
 use Rattle.log_laws.proofs.Drains.{clear-within, clear-behind}
 use Rattle.fab_world.specs.Held.{IsLater}
-use Rattle.fab_world.proofs.Moments.{later-fabric, later-hosts, later-channels, later-adopted}
+use Rattle.fab_world.proofs.Moments.{later-hosts, later-adopted}
+use Rattle.world_drain.proofs.Cables.{way-cables, log-cables, drain-leaves, clear-leaves, channels-stay}
 use Rattle.world_drain.proofs.EventRows.{resets-later}
 use Rattle.world_drain.proofs.Later.{later-both, way-later, on-any, on-err}
 use Rattle.world_drain.proofs.Resets.{is-clear, is-idle}
@@ -10,14 +14,15 @@ use Rattle.world_drain.proofs.clearing.clear.Goals as goal
 pub returns-in_err-drain-clause-err : goal.returns-in_err-drain-clause-err
 returns-in_err-drain-clause-err c = on-any c.from_residual.result (clear-within c.args.w.now c.drain.new.w c.in_err-drain.ensures.err)
 
-pub returns-in_err-drain-clause-fabric : goal.returns-in_err-drain-clause-fabric
-returns-in_err-drain-clause-fabric c = later-fabric c.args.w.now c.drain.new.w (way-later c.args.w.now c.drain.new.w c.in_err-drain.ensures.err)
+pub returns-in_err-drain-clause-cables : goal.returns-in_err-drain-clause-cables
+returns-in_err-drain-clause-cables c = way-cables (drain-leaves c.args.w.now) c.in_err-drain.ensures.err
 
 pub returns-in_err-drain-clause-hosts : goal.returns-in_err-drain-clause-hosts
 returns-in_err-drain-clause-hosts c = later-hosts c.args.w.now c.drain.new.w c.moment.ensures.kept (way-later c.args.w.now c.drain.new.w c.in_err-drain.ensures.err)
 
 pub returns-in_err-drain-clause-channels : goal.returns-in_err-drain-clause-channels
-returns-in_err-drain-clause-channels c = later-channels c.args.w.now c.drain.new.w c.moment.ensures.kept (way-later c.args.w.now c.drain.new.w c.in_err-drain.ensures.err)
+returns-in_err-drain-clause-channels c =
+    channels-stay c.args.w.now c.drain.new.w c.moment.ensures.kept (way-later c.args.w.now c.drain.new.w c.in_err-drain.ensures.err) (ap life_channels (way-cables (drain-leaves c.args.w.now) c.in_err-drain.ensures.err))
 
 pub returns-in_err-drain-clause-adopted : goal.returns-in_err-drain-clause-adopted
 returns-in_err-drain-clause-adopted c = later-adopted c.args.w.now c.drain.new.w (way-later c.args.w.now c.drain.new.w c.in_err-drain.ensures.err)
@@ -40,14 +45,14 @@ returns-clause-err c = on-err c.reset_full.result (clear-behind c.args.w.now c.d
 pub returns-clause-idle : goal.returns-clause-idle
 returns-clause-idle c = is-idle c.args.w.now c.reset_full.new.w c.reset_full.result (returns-clause-after c)
 
-pub returns-clause-fabric : goal.returns-clause-fabric
-returns-clause-fabric c = later-fabric c.args.w.now c.reset_full.new.w (done c)
+pub returns-clause-cables : goal.returns-clause-cables
+returns-clause-cables c = log-cables (log.clear c.args.w.now) c.args.w.now c.reset_full.new.w c.reset_full.result (clear-leaves c.args.w.now) (returns-clause-after c) (returns-clause-err c)
 
 pub returns-clause-hosts : goal.returns-clause-hosts
 returns-clause-hosts c = later-hosts c.args.w.now c.reset_full.new.w c.moment.ensures.kept (done c)
 
 pub returns-clause-channels : goal.returns-clause-channels
-returns-clause-channels c = later-channels c.args.w.now c.reset_full.new.w c.moment.ensures.kept (done c)
+returns-clause-channels c = channels-stay c.args.w.now c.reset_full.new.w c.moment.ensures.kept (done c) (ap life_channels (returns-clause-cables c))
 
 pub returns-clause-adopted : goal.returns-clause-adopted
 returns-clause-adopted c = later-adopted c.args.w.now c.reset_full.new.w (done c)

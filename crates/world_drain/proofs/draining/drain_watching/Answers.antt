@@ -1,5 +1,7 @@
+use Rattle.world_defs.specs.Logs as log
 use Rattle.fab_world.specs.Held.{IsLater}
-use Rattle.fab_world.proofs.Moments.{later-fabric, later-hosts}
+use Rattle.fab_world.proofs.Moments.{later-hosts}
+use Rattle.world_drain.proofs.Cables.{log-cables, drain-leaves}
 use Rattle.world_drain.proofs.Heard.{drain-heard, drained-later}
 use Rattle.world_drain.proofs.draining.drain_watching.Goals as goal
 
@@ -10,8 +12,9 @@ done c = drained-later c.args.w.now c.drain_parts.new.w c.drain_parts.result c.d
 pub returns-clause-heard : goal.returns-clause-heard
 returns-clause-heard c = drain-heard c.args.watch c.args.w.now c.drain_parts.result c.moment.ensures.kept c.drain_parts.ensures.seen
 
-pub returns-clause-fabric : goal.returns-clause-fabric
-returns-clause-fabric c = later-fabric c.args.w.now c.drain_parts.new.w (done c)
+pub returns-clause-cables : goal.returns-clause-cables
+returns-clause-cables c =
+    log-cables (log.drain c.args.w.now) c.args.w.now c.drain_parts.new.w c.drain_parts.result (drain-leaves c.args.w.now) c.drain_parts.ensures.after c.drain_parts.ensures.err
 
 pub returns-clause-hosts : goal.returns-clause-hosts
 returns-clause-hosts c = later-hosts c.args.w.now c.drain_parts.new.w c.moment.ensures.kept (done c)

@@ -1,5 +1,6 @@
 use Rattle.std.proofs.Common.{◌≡◌, ◌<◌, ◌≤◌, ◌+◌, ℕ, length, min, ap, sym, ◌∙◌, subst, arith}
-use Rattle.world_defs.specs.World.{WorldState, fabric_of, last_count}
+use Rattle.cable_history.specs.History.{fabric_at}
+use Rattle.world_defs.specs.World.{WorldState, last_count}
 use Rattle.world_defs.specs.Settle.{unacknowledged_in}
 use Rattle.world_defs.specs.Settled.{IsSettled as IsEnd}
 use Rattle.world_laws.proofs.Rounds.{settle-bounded}
@@ -11,8 +12,9 @@ use Rattle.world_defs.specs.Row.{IsPartWay}
 use Rattle.world_defs.proofs.LogRows.{settle-row, byte_settles}
 use Rattle.log_laws.proofs.Settles.{settle-clear, settle-rounds}
 use Rattle.fab_world.specs.Held.{IsLater}
-use Rattle.fab_world.proofs.Moments.{later-fabric, later-hosts, later-channels, later-adopted}
+use Rattle.fab_world.proofs.Moments.{later-hosts, later-adopted}
 use Rattle.settle_laws.proofs.Flowing.{settle-ends_settled}
+use Rattle.world_drain.proofs.Cables.{way-pulled, done-pulled, settle-plugs_none, same-pulled, pulled-channels, channels-stay}
 use Rattle.world_drain.proofs.Later.{way-later, on-any}
 use Rattle.world_drain.proofs.WholeRound.{IsSettled, settled-is, settled-idle}
 use Rattle.world_drain.proofs.rounds.settle.Goals as goal
@@ -27,17 +29,20 @@ cut c = way-later c.args.w.now c.all_rounds.new.w (cut_way c)
 pub returns-in_err-first-clause-err : goal.returns-in_err-first-clause-err
 returns-in_err-first-clause-err c = on-any c.from_residual.result (settle-clear c.args.w.now c.clear.new.w c.in_err-first.ensures.err)
 
+pub returns-in_err-first-clause-cables : goal.returns-in_err-first-clause-cables
+returns-in_err-first-clause-cables c = same-pulled c.clear.ensures.cables
+
 pub returns-in_err-rest-clause-err : goal.returns-in_err-rest-clause-err
 returns-in_err-rest-clause-err c = on-any c.from_residual-in_err-rest.result (cut_way c)
 
-pub returns-in_err-rest-clause-fabric : goal.returns-in_err-rest-clause-fabric
-returns-in_err-rest-clause-fabric c = later-fabric c.args.w.now c.all_rounds.new.w (cut c)
+pub returns-in_err-rest-clause-cables : goal.returns-in_err-rest-clause-cables
+returns-in_err-rest-clause-cables c = way-pulled (settle-plugs_none c.args.w.now) (cut_way c)
 
 pub returns-in_err-rest-clause-hosts : goal.returns-in_err-rest-clause-hosts
 returns-in_err-rest-clause-hosts c = later-hosts c.args.w.now c.all_rounds.new.w c.moment.ensures.kept (cut c)
 
 pub returns-in_err-rest-clause-channels : goal.returns-in_err-rest-clause-channels
-returns-in_err-rest-clause-channels c = later-channels c.args.w.now c.all_rounds.new.w c.moment.ensures.kept (cut c)
+returns-in_err-rest-clause-channels c = channels-stay c.args.w.now c.all_rounds.new.w c.moment.ensures.kept (cut c) (pulled-channels (returns-in_err-rest-clause-cables c))
 
 pub returns-in_err-rest-clause-adopted : goal.returns-in_err-rest-clause-adopted
 returns-in_err-rest-clause-adopted c = later-adopted c.args.w.now c.all_rounds.new.w (cut c)
@@ -75,7 +80,7 @@ none-counted k most e = omega (arith, e)
 pub returns-clause-lawful : goal.returns-clause-lawful
 returns-clause-lawful c clears =
     let w : WorldState = c.args.w.now in
-    (settled c).counted ∙ none-counted (log.settle w).value.resets last_count (settle-flows (fabric_of w) w c.reached.ensures clears)
+    (settled c).counted ∙ none-counted (log.settle w).value.resets last_count (settle-flows (fabric_at w.links.cables 0) w c.reached.ensures clears)
 
 -- so it ends settled, and where nothing is unacknowledged all is got
 pub returns-clause-settled : goal.returns-clause-settled
@@ -87,19 +92,19 @@ pub returns-clause-got : goal.returns-clause-got
 returns-clause-got c none =
     let w : WorldState = c.args.w.now in
     let after = (settled c).after in
-    subst IsAllGot (sym after) (settle-got (fabric_of w) w c.reached.ensures (ap unacknowledged_in (sym after) ∙ (sym c.in_ok-rest.ensures.unacked ∙ none)))
+    subst IsAllGot (sym after) (settle-got (fabric_at w.links.cables 0) w c.reached.ensures (ap unacknowledged_in (sym after) ∙ (sym c.in_ok-rest.ensures.unacked ∙ none)))
 
 pub returns-clause-idle : goal.returns-clause-idle
 returns-clause-idle c = settled-idle c.args.w.now c.all_rounds.new.w c.moment.ensures.kept (settled c).after
 
-pub returns-clause-fabric : goal.returns-clause-fabric
-returns-clause-fabric c = later-fabric c.args.w.now c.all_rounds.new.w (done c)
+pub returns-clause-cables : goal.returns-clause-cables
+returns-clause-cables c = done-pulled (log.settle c.args.w.now) c.args.w.now c.all_rounds.new.w (settle-plugs_none c.args.w.now) (settled c).after
 
 pub returns-clause-hosts : goal.returns-clause-hosts
 returns-clause-hosts c = later-hosts c.args.w.now c.all_rounds.new.w c.moment.ensures.kept (done c)
 
 pub returns-clause-channels : goal.returns-clause-channels
-returns-clause-channels c = later-channels c.args.w.now c.all_rounds.new.w c.moment.ensures.kept (done c)
+returns-clause-channels c = channels-stay c.args.w.now c.all_rounds.new.w c.moment.ensures.kept (done c) (pulled-channels (returns-clause-cables c))
 
 pub returns-clause-adopted : goal.returns-clause-adopted
 returns-clause-adopted c = later-adopted c.args.w.now c.all_rounds.new.w (done c)

@@ -23,7 +23,7 @@ pub returns-clause-ok : goal.returns-clause-ok
 returns-clause-ok c =
     let at : IsAt c.self.inside.links c.self.inside.hosts.items c.self.inside.adopted c.args.self.now c.args.host c.from-at.result c.index_mut.result.now =
     record { is = c.self.view_is; kept = c.self.invariant.hosts; below = c.requires.there; at = c.from-at.ensures; there = c.index_mut.ensures.value } in
-    injected-is c.args.c c.staged.new.self c.args.packet c.in_ok-effect.effect c.enter.new.links at c.requires.free c.requires.first c.in_ok-effect.ensures.number c.in_ok-effect.ensures.strikes c.staged.ensures
+    injected-is c.args.c c.staged.new.self c.args.packet c.in_ok-effect.effect c.enter.new.links at c.requires.free c.requires.may c.requires.first c.in_ok-effect.ensures.number c.in_ok-effect.ensures.strikes c.staged.ensures
 
 pub returns-in_err-effect-clause-err : goal.returns-in_err-effect-clause-err
 returns-in_err-effect-clause-err c =

@@ -1,5 +1,5 @@
 use Rattle.std.proofs.Common.{subst}
-use Rattle.world_defs.specs.World.{fabric_of}
+use Rattle.cable_history.specs.History.{fabric_at}
 use Rattle.world_defs.specs.Sound.{IsSound}
 use Rattle.world_defs.specs.Traffic.{IsHonestTraffic}
 use Rattle.message_laws.specs.Windows.{HasWindows}
@@ -14,19 +14,19 @@ use Rattle.fab_world.specs.Moments.{AreBuffersUntouched, AreQueuesUnfinished}
 use Rattle.fab_world.proofs.world.World.moment.Goals as goal
 
 pub returns-clause-sound : goal.returns-clause-sound
-returns-clause-sound c = let w = c.self.inside.machine in subst IsSound c.self.view_is (reached-sound (fabric_of w) w c.self.invariant.2)
+returns-clause-sound c = let w = c.self.inside.machine in subst IsSound c.self.view_is (reached-sound (fabric_at w.links.cables 0) w c.self.invariant.2)
 
 pub returns-clause-windows : goal.returns-clause-windows
-returns-clause-windows c = let w = c.self.inside.machine in subst HasWindows c.self.view_is (windows-hold (fabric_of w) w c.self.invariant.2)
+returns-clause-windows c = let w = c.self.inside.machine in subst HasWindows c.self.view_is (windows-hold (fabric_at w.links.cables 0) w c.self.invariant.2)
 
 pub returns-clause-honest : goal.returns-clause-honest
-returns-clause-honest c = let w = c.self.inside.machine in subst IsHonestTraffic c.self.view_is (traffic-honest (fabric_of w) w c.self.invariant.2)
+returns-clause-honest c = let w = c.self.inside.machine in subst IsHonestTraffic c.self.view_is (traffic-honest (fabric_at w.links.cables 0) w c.self.invariant.2)
 
 pub returns-clause-unfinished : goal.returns-clause-unfinished
-returns-clause-unfinished c = let w = c.self.inside.machine in subst AreQueuesUnfinished c.self.view_is (queue-unfinished (fabric_of w) w c.self.invariant.2)
+returns-clause-unfinished c = let w = c.self.inside.machine in subst AreQueuesUnfinished c.self.view_is (queue-unfinished (fabric_at w.links.cables 0) w c.self.invariant.2)
 
 pub returns-clause-untouched : goal.returns-clause-untouched
-returns-clause-untouched c = let w = c.self.inside.machine in subst AreBuffersUntouched c.self.view_is (provided-untouched (fabric_of w) w c.self.invariant.2)
+returns-clause-untouched c = let w = c.self.inside.machine in subst AreBuffersUntouched c.self.view_is (provided-untouched (fabric_at w.links.cables 0) w c.self.invariant.2)
 
 pub returns-clause-parts : goal.returns-clause-parts
-returns-clause-parts c = let w = c.self.inside.machine in subst HasTiedParts c.self.view_is (coming-tied (fabric_of w) w c.self.invariant.2)
+returns-clause-parts c = let w = c.self.inside.machine in subst HasTiedParts c.self.view_is (coming-tied (fabric_at w.links.cables 0) w c.self.invariant.2)

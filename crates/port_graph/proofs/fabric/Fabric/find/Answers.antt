@@ -1,4 +1,4 @@
-use Rattle.std.proofs.Common.{◌≡◌, Some, None, option_map, ap, sym, ◌∙◌, rules}
+use Rattle.std.proofs.Common.{◌≡◌, option_map, ap, sym, ◌∙◌, rules}
 use Rattle.std.specs.Prelude.{position, bytes_eq}
 use Rattle.net_defs.specs.declared.vertex.Vertex.TheVariants.{Host, Switch}
 use Rattle.net_defs.specs.Building.{vertex_named, first_of_two}

@@ -6,6 +6,7 @@ use Rattle.world_commands.specs.declared.out_of_memory.OutOfMemory.TheVariants.{
 use Rattle.world_commands.specs.Cut.{HidesNoRefusal}
 use Rattle.world_commands.proofs.Cut.{in-doing}
 use Rattle.run_session.proofs.Beside.{duo_cut}
+use Rattle.run_session.proofs.Going.{goes-as}
 use Rattle.run_session.proofs.Leaving.{duo-unrefused}
 use Rattle.run_session.proofs.held.Held.obey.Goals as goal
 
@@ -19,3 +20,6 @@ returns-in-Duo-clause-cut c =
     on-any c.obey_duo.result
     (subst (λ d. IsCutShort c.args.self.now d c.obey_duo.new.self.world) (sym c.in-Duo.is)
     (duo_cut c.args.self.now _ c.obey_duo.new.self.world (ap (λ (x : SessionState). x.world) c.obey_duo.ensures.rest)))
+
+pub returns-in-Duo-clause-cables : goal.returns-in-Duo-clause-cables
+returns-in-Duo-clause-cables c = goes-as c.args.self.now.world c.obey_duo.new.self.world (ap (λ (x : SessionState). x.world) c.obey_duo.ensures.rest)

@@ -8,6 +8,7 @@ use Rattle.world_commands.specs.Done.{session_of}
 use Rattle.world_commands.proofs.Answered.{if-ok, if-err}
 use Rattle.world_drain.proofs.Later.{on-err}
 use Rattle.run_session.specs.Holding.{world_in}
+use Rattle.run_session.specs.Kept.{GoesOn}
 use Rattle.run_session.specs.Obeyed.{IsObeyed}
 use Rattle.run_session.proofs.Beside.{beside_obeyed, beside_cut}
 use Rattle.run_session.proofs.Leaving.{beside-unrefused}
@@ -34,3 +35,6 @@ returns-clause-cut c =
     let s : SessionState = session_of (world_in c.self.inside.world) c.self.inside.last_map c.self.inside.last_routes in
     subst (λ (x : SessionState). OnErr c.obey_parts.result (IsCutShort x c.args.c.now (world_in c.obey_parts.new.slot))) c.self.view_is
     (on-err c.obey_parts.result (beside_cut s c.args.c.now (world_in c.obey_parts.new.slot) c.self.inside.duo) c.obey_parts.ensures.cut)
+
+pub returns-clause-cables : goal.returns-clause-cables
+returns-clause-cables c = subst (λ (x : SessionState). GoesOn x.world (world_in c.obey_parts.new.slot)) c.self.view_is c.obey_parts.ensures.cables

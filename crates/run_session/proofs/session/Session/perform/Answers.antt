@@ -2,6 +2,7 @@ use Rattle.std.proofs.Common.{◌≡◌, ◌∙◌, subst}
 use Rattle.run_defs.specs.Session.{SessionState}
 use Rattle.promise_laws.specs.Duos.{IsDuoLeft}
 use Rattle.world_commands.specs.Cut.{HidesNoRefusal}
+use Rattle.run_session.specs.Kept.{GoesOn}
 use Rattle.run_session.proofs.session.Session.perform.Goals as goal
 
 pub returns-in-Err-clause-unrefused : goal.returns-in-Err-clause-unrefused
@@ -17,3 +18,17 @@ returns-in-Err-clause-duo c =
     let seen = c.self.view_is in
     let same : c.deref_mut.result.now ≡ c.args.self = cc in
     subst (λ (x : SessionState). IsDuoLeft x c.args.c.now c.obey-printed.new.self.duo) same c.in-Err.ensures.duo
+
+pub returns-in-Ok-clause-cables : goal.returns-in-Ok-clause-cables
+returns-in-Ok-clause-cables c =
+    let held = c.deref_mut.ensures.value in
+    let seen = c.self.view_is in
+    let same : c.deref_mut.result.now ≡ c.args.self = cc in
+    subst (λ (x : SessionState). GoesOn x.world c.obey-printed.new.self.world) same c.obey-printed.ensures.cables
+
+pub returns-in-Err-clause-err : goal.returns-in-Err-clause-err
+returns-in-Err-clause-err c =
+    let held = c.deref_mut.ensures.value in
+    let seen = c.self.view_is in
+    let same : c.deref_mut.result.now ≡ c.args.self = cc in
+    subst (λ (x : SessionState). GoesOn x.world c.obey-printed.new.self.world) same c.obey-printed.ensures.cables

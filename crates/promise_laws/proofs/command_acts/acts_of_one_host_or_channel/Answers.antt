@@ -1,5 +1,0 @@
-use Rattle.promise_laws.proofs.OneAction.{acts_are_one_action}
-use Rattle.promise_laws.proofs.command_acts.acts_of_one_host_or_channel.Goals as goal
-
-pub returns : goal.returns
-returns c = acts_are_one_action
