@@ -20,14 +20,14 @@ def wide(text, size):
 
 class Drawing:
     """Where all of a fabric stands, and how it is drawn. `notes` has a second line for a vertex, as the map's name of it;
-    `more` are cables that are drawn besides, and may share a port with one of the fabric's."""
+    `more` are cables that are drawn besides, and may share a port with one of the fabric's: its slot too, where both leave
+    by one side."""
 
     def __init__(self, fabric, kind=None, grid=None, notes=None, ports=True, more=()):
         self.fabric, self.notes, self.ports = fabric, notes or {}, ports
         self.layout, self.cables = layout_of(fabric, kind, grid), [*fabric.cables, *more]
         self.slots, self.far = {it: {side: [] for side in OUT} for it in fabric.vertices()}, {}
-        for a, b in self.cables:
-            self.take_slots(a, b)
+        self.taken = {it: self.take_slots(it) for it in self.cables}
         # Where hosts in one row would make it too wide, their names are written upwards.
         row = sum(wide(it, NAME) + 20 for it in fabric.hosts)
         self.upright = bool(getattr(self.layout, "rows", None)) and row > 1150
@@ -38,12 +38,16 @@ class Drawing:
             self.place_ends(name)
         self.move_into_view()
 
-    def take_slots(self, a, b):
-        """The slots of a cable's two ports, where no other cable took them before."""
-        for end, side, far in zip((a, b), self.layout.sides(a, b), (b, a)):
-            if end not in self.far:
-                self.slots[end[0]][side].append(end)
-                self.far[end] = far
+    def take_slots(self, cable):
+        """The slots of a cable's two ports: those that another cable took before it, where they are at the same side."""
+        taken = []
+        for end, side, far in zip(cable, self.layout.sides(*cable), reversed(cable)):
+            slot = (*end, cable) if end in self.far and end not in self.slots[end[0]][side] else end
+            if slot not in self.far:
+                self.slots[end[0]][side].append(slot)
+                self.far[slot] = far
+            taken.append(slot)
+        return tuple(taken)
 
     def size(self, name):
         if name in self.fabric.hosts and self.upright:
@@ -76,10 +80,10 @@ class Drawing:
     def move_into_view(self):
         """Moves all so that it begins at the margin; the size of the picture."""
         boxes = [(x - w / 2, y - h / 2, x + w / 2, y + h / 2) for (x, y), (w, h) in zip(map(self.spots.get, self.sizes), self.sizes.values())]
-        for a, b in self.cables:
-            bend = self.bend(a, b) or ()
+        for cable in self.cables:
+            bend = self.bend(*self.taken[cable]) or ()
             boxes += [(*it, *it) for it in bend]
-            boxes += [(x - w, y - 6, x + w, y + 6) for _, w, x, y in self.labels((a, b))]
+            boxes += [(x - w, y - 6, x + w, y + 6) for _, w, x, y in self.labels(cable)]
         left, top = (min((it[k] for it in boxes), default=0) - MARGIN for k in (0, 1))
         right, bottom = (max((it[k] for it in boxes), default=0) + MARGIN for k in (2, 3))
         self.spots = {name: (x - left, y - top) for name, (x, y) in self.spots.items()}
@@ -106,8 +110,9 @@ class Drawing:
     def labels(self, cable):
         """For a cable that is cut, the vertex of the other piece beside each: its name, half its width, and its middle."""
         if self.is_cut(*cable):
-            for end, far, (x, y) in zip(cable, reversed(cable), self.stubs(*cable)):
-                (ox, oy), half = OUT[self.ends[end][2]], wide(far[0], SMALL) / 2
+            slots = self.taken[cable]
+            for slot, far, (x, y) in zip(slots, reversed(cable), self.stubs(*slots)):
+                (ox, oy), half = OUT[self.ends[slot][2]], wide(far[0], SMALL) / 2
                 yield far[0], half, x + ox * (4 + half), y + 7 * oy
 
     def label_texts(self, cable):
@@ -115,9 +120,9 @@ class Drawing:
 
     def path(self, cable, back=False):
         """The line of a cable, from its first end or, back, from its second."""
-        a, b = reversed(cable) if back else cable
+        a, b = reversed(self.taken[cable]) if back else self.taken[cable]
         (x, y, _), (u, v, _) = self.ends[a], self.ends[b]
-        if self.is_cut(a, b):
+        if self.is_cut(*cable):
             (p, q), (r, s) = self.stubs(a, b)
             return f"M{x:.1f} {y:.1f}L{p:.1f} {q:.1f}M{r:.1f} {s:.1f}L{u:.1f} {v:.1f}"
         bend = self.bend(a, b)

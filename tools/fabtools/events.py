@@ -1,7 +1,7 @@
 """What happened in a run, as sentences: each line of the script beside what the report answers it, in order."""
 
 from fabtools import meanings, waiting
-from fabtools.report import CircuitMap, Map, Routes
+from fabtools.report import Broken, CircuitMap, Map, Routes
 from fabtools.words import counted
 
 KINDS = ("commands", "messages", "faults", "ports", "steps", "refused")
@@ -16,11 +16,11 @@ class Event:
         self.kind, self.line, self.report, self.says, self.means, self.pair = kind, line, report, says, means, pair
 
 
-def events(script, items):
-    """The events of a script's lines (numbers and words) and a report's items; they end where either does."""
+def events(fabric, items):
+    """The events of the lines of a fabric's script and a report's items; they end where either does."""
     items, found = list(items), []
-    waits = waiting.after_settles(script, items)
-    for line, words in script:
+    waits = waiting.after_settles(fabric, items)
+    for line, words in fabric.script:
         if not items:
             break
         item = items.pop(0)
@@ -41,6 +41,8 @@ def event(line, words, item, waits):
         return Event("commands", line, item.line, f"{item.host} maps circuit links {item.depth} deep, by {counted(item.asks, 'ask')}")
     if isinstance(item, Routes):
         return Event("commands", line, item.line, f"{counted(len(item.routes), 'route')}, and {counted(len(item.ranks), 'rank')}")
+    if isinstance(item, Broken):
+        return Event("commands", line, item.line, f"{counted(len(item.pairs), 'installed route')} over pulled cables", item.pairs and meanings.BROKEN)
     at, answer = item
     means = waits.get(at) or meanings.of_line(answer)
     means = "; ".join(means) if isinstance(means, list) else means
@@ -94,6 +96,8 @@ def bytes_of(count):
 
 def of_plan(words, answer):
     more = f", bit {words[3]} by {words[4]}" if words[1] == "flip" else ""
+    if words[1] == "pull":
+        return f"planned: port {words[4]} of {words[3]} is pulled at injection {answer[-1]}"
     return f"planned: {words[1]} injection {answer[-1]}{more}"
 
 
@@ -109,6 +113,9 @@ TELLERS = {
     "poll": of_poll,
     "plan": of_plan,
     "settle": of_settle,
+    "pull": lambda words, answer: f"the cable at port {words[2]} of {words[1]} is pulled",
+    "plug": lambda words, answer: f"port {words[2]} of {words[1]} and port {words[4]} of {words[3]} are joined",
+    "revoke": lambda words, answer: f"hosts that give up the installed routes: {answer[1]}",
     "install": lambda words, answer: f"tables installed at {answer[1]} of {answer[3]} hosts",
     "open": lambda words, answer: f"{words[1]} opens port {words[2]} with {words[3]} send and {words[4]} receive tokens",
     "provide": lambda words, answer: f"{words[1]}:{words[2]} provides a buffer of size {words[3]}, priority {words[4]}",

@@ -138,6 +138,8 @@ class MapFacts:
         host = self.shown.host
         if away is None:
             return f"  {vertex} isn't on the map: no cables lead to it from {host}"
+        if vertex not in fabrics.reached(self.fabric.without_planned(), host):
+            return f"  {vertex} isn't on the map: a planned pull may have taken a cable on the way ({away} from {host})"
         return f"  {vertex} isn't on the map, though cables lead to it ({away} from {host})"
 
 
@@ -189,6 +191,26 @@ class RoutesFacts:
         return [
             f"  busiest, with {counted(most, 'route')}: " + cut_short(list(map(channel_text, busiest)), is_brief),
             "  used by no route: " + (cut_short(unused, is_brief) or "none"),
+        ]
+
+
+class BrokenFacts:
+    """The installed routes that cross a pulled cable, and what to do about them."""
+
+    def __init__(self, broken):
+        self.broken = broken
+
+    def facts(self):
+        return {"line": self.broken.line, "kind": "broken", "pairs": [list(it) for it in self.broken.pairs]}
+
+    def lines(self, is_brief):
+        pairs = [f"{sender} to {receiver}" for sender, receiver in self.broken.pairs]
+        if not pairs:
+            return [f"line {self.broken.line}: no installed route crosses a pulled cable"]
+        return [
+            f"line {self.broken.line}: {counted(len(pairs), 'installed route')} cross{'es'[: 2 * (len(pairs) == 1)]} a pulled cable",
+            f"  {cut_short(pairs, is_brief, ', ')}",
+            f"  {meanings.BROKEN}",
         ]
 
 

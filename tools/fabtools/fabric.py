@@ -41,6 +41,30 @@ class Fabric:
         self.cables.append((a, b))
         self.far_ends[a], self.far_ends[b] = b, a
 
+    def after(self, words):
+        """The fabric after a line of a report: another one where a cable was pulled or plugged."""
+        if words[0] not in ("pull", "plug") or words[-1] != "done":
+            return self
+        ends = [(words[at], int(words[at + 1])) for at in range(1, len(words) - 1, 2)]
+        if any(port >= self.ports(vertex) for vertex, port in ends):
+            return self
+        changed = Fabric()
+        changed.hosts, changed.switches, changed.script = self.hosts, self.switches, self.script
+        for cable in self.cables:
+            if words[0] == "plug" or ends[0] not in cable:
+                changed.add_cable(*cable)
+        if words[0] == "plug":
+            changed.add_cable(*ends)
+        return changed
+
+    def without_planned(self):
+        """The fabric without the cables that a planned pull of the script may have taken: no line says whether it did."""
+        fabric = self
+        for _, words in self.script:
+            if words[:2] == ["plan", "pull"]:
+                fabric = fabric.after(["pull", *words[3:5], "done"])
+        return fabric
+
     def text(self):
         """The fabric's lines, up to the line `script`."""
         lines = [f"host {it}" for it in self.hosts]
@@ -65,6 +89,15 @@ def check_end(fabric, line, end):
         raise Fault(line, "portrange", f"{shown(vertex)} has no port {port}: it has {has}")
 
 
+def check_ends(fabric, line, ends):
+    """Ends are there: first the vertex of each, then each port."""
+    for vertex, _ in ends:
+        if not fabric.ports(vertex):
+            check_end(fabric, line, (vertex, 0))
+    for end in ends:
+        check_end(fabric, line, end)
+
+
 def host_line(fabric, line, words):
     new = name(line, words[0])
     check_new(fabric, line, new)
@@ -85,11 +118,7 @@ def switch_line(fabric, line, words):
 
 def cable_line(fabric, line, words):
     ends = [(name(line, words[at]), number(line, field, words[at + 1])) for at, field in ((0, "P"), (2, "Q"))]
-    for vertex, _ in ends:
-        if not fabric.ports(vertex):
-            check_end(fabric, line, (vertex, 0))
-    for end in ends:
-        check_end(fabric, line, end)
+    check_ends(fabric, line, ends)
     for end in ends:
         if fabric.far(end):
             raise Fault(line, "portused", f"port {end[1]} of {end[0]} has a cable already, to port {'{1} of {0}'.format(*fabric.far(end))}")

@@ -31,6 +31,7 @@ tokens H PORT                         shows where each token is
 close H PORT                          closes the port
 plan lose|repeat|hold N               a fault for the Nth injection from now
 plan flip N BIT PATTERN               the same, of bits from BIT on
+plan pull N V P                       the cable at port P of V is pulled then
 step inject|giveup H                  one event of a host
 step expire H B                       sends again what B didn't acknowledge
 step advance|lose|repeat|hold|reset V P
@@ -38,6 +39,10 @@ step advance|lose|repeat|hold|reset V P
 step flip V P BIT PATTERN             the same
 step replay SERIAL                    a packet that was put aside comes back
 settle                                lets all go on until all is acknowledged
+pull V P                              pulls the cable at port P of V
+plug V P W Q                          joins two ports by a new cable
+broken                                shows the installed routes over pulled cables
+revoke                                all hosts give up the installed routes
 duo provide X SIZE                    host 0 or 1 of two that restart: a buffer (SIZE 4 to 16)
 duo send X LEN SEED                   sends the other bytes SEED, SEED + 1, .. (LEN to 1016)
 duo emit|expire|poll|restart X        one event of one of the two

@@ -30,9 +30,9 @@ MAP_WORDS = {
         "map [deeper](#which-depth), or from a host nearer to all",
     ),
     "doubtful {count}": (
-        "{count} of the asks drowned: of each a planned fault met every try of one of its two probes",
-        "{count} of the asks drowned: of each a planned fault met every try of one of its two probes, so what it found to be nothing may be something",
-        "map again, since faults strike once; or give more TRIES than you planned faults",
+        "{count} of the asks drowned: of each a planned fault met every try of one of its two probes, or a planned pull struck in the map before it was answered",
+        "{count} of the asks drowned: of each a planned fault met every try of one of its two probes, or a planned pull struck in the map before it was answered, so what it found to be nothing may be something",
+        "map again, since what is planned strikes once; more TRIES than planned faults help too, but not against a pull",
     ),
     "complete": (
         "none of these holds: the map is the mapper's part of the fabric",
@@ -45,6 +45,10 @@ MAP_WORDS = {
         "a lesser DEPTH, or a host that is nearer to many others",
     ),
 }
+
+
+# What to do about routes that cross a pulled cable.
+BROKEN = "messages on them wait: 'map', 'routes', 'revoke', 'install' bring routes over the cables that are in place"
 
 
 def plain(text):
@@ -114,11 +118,15 @@ def of_line(words):
     if words[0] == "circuit" and words[2] == "nodes":
         return of_map("circuit {host} nodes", words[1])
     if words[0] == "settle" and words[-1] != "0":
-        return "messages wait: for a token that fits (its SIZE exactly, its priority), a port that is open, or a receiver with a table"
+        return "messages wait: for a token that fits (its SIZE exactly, its priority), a port that is open, a receiver with a table, or a cable"
     if words[0] == "settle" and words[4] != "0":
-        return "packets that waited for each other in a circle were taken away: probes or flipped packets"
+        return "packets that waited for each other in a circle were taken away: packets of a mapper, flipped ones, or those of routes that were given up"
     if words[0] == "installed" and words[1] != words[3]:
-        return "each host that isn't counted has a part that met a planned fault in each try: 'install' again, or with more tries"
+        return "each host that isn't counted has a part that met a planned fault in each try, or whose way lost a cable: 'install' again, or map again"
+    if words[0] == "revoked":
+        return "no host has routes until 'install' sends them" if words[1] != "0" else "no routes were installed, so nothing has changed"
+    if words[0] == "plug" and words[-1] == "done":
+        return "the cable is new: messages don't cross it until new routes are installed"
     if words[0] == "table" and words[2] == "none":
         return f"{words[1]} has no routes, so it can send nothing"
     if words == ["step", "idle"]:

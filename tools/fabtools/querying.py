@@ -1,8 +1,8 @@
 """What is asked of tools/explain, and the facts that answer it."""
 
 from fabtools import meanings, restarts, waiting
-from fabtools.explained import LineFacts, MapFacts, RoutesFacts
-from fabtools.report import CircuitMap, Map, Routes, Shown, misfit
+from fabtools.explained import BrokenFacts, LineFacts, MapFacts, RoutesFacts
+from fabtools.report import Broken, CircuitMap, Map, Routes, Shown, misfit
 from fabtools.routing import Routed, channel_text, end_text, load_facts, shortest_way, way_text
 from fabtools.words import counted
 
@@ -15,9 +15,9 @@ def facts(fabric, report, asked):
     stranger = next((it for it in hosts_of(report) if it not in fabric.hosts), None)
     if stranger:
         raise NoSuchThing(f"the report isn't that of this text, which has no host {stranger}")
-    for shown in report.of(Map):
-        if misfit(fabric, shown):
-            raise NoSuchThing(f"the report isn't that of this text: {misfit(fabric, shown)}")
+    for shown, standing in report.standing(fabric):
+        if isinstance(shown, Map) and misfit(standing, shown):
+            raise NoSuchThing(f"the report isn't that of this text: {misfit(standing, shown)}")
     if asked.pair:
         return Pair(last_routes(fabric, report), *asked.pair)
     if asked.cable:
@@ -34,23 +34,27 @@ def hosts_of(report):
             yield from (host for route in item.routes for host in route[:2])
         elif isinstance(item, Shown):
             yield from [item.host, *item.hosts()]
+        elif isinstance(item, Broken):
+            yield from (host for pair in item.pairs for host in pair)
 
 
-def routed(fabric, items):
-    """The items of a report, its routes as followed through the fabric by the last map before them."""
-    shown = at = None
-    for item in items:
-        if isinstance(item, Map):
-            shown, at = item, MapFacts(fabric, item).at
-        if isinstance(item, Routes):
+def routed(fabric, report):
+    """The items of a report, its maps laid over the fabric, and its routes as followed through it by the last map before them."""
+    shown = last = None
+    for item, standing in report.standing(fabric):
+        if isinstance(item, (Map, CircuitMap)):
+            laid = MapFacts(standing, item)
+            shown, last = (item, laid) if isinstance(item, Map) else (shown, last)
+            yield laid
+        elif isinstance(item, Routes):
             if shown:
-                yield Routed(fabric, shown, at, item)
+                yield Routed(last.fabric, shown, last.at, item)
         else:
             yield item
 
 
 def last_routes(fabric, report):
-    found = [it for it in routed(fabric, report.items) if isinstance(it, Routed)]
+    found = [it for it in routed(fabric, report) if isinstance(it, Routed)]
     if not found:
         raise NoSuchThing("the report has no routes")
     return found[-1]
@@ -61,13 +65,15 @@ class Whole:
 
     def __init__(self, fabric, report, is_brief):
         self.items, self.is_brief = [], is_brief
-        waits = waiting.after_settles(fabric.script, report.items)
+        waits = waiting.after_settles(fabric, report.items)
         told = restarts.pairs(fabric.script, report.items)
-        for item in routed(fabric, report.items):
-            if isinstance(item, (Map, CircuitMap)):
-                self.items.append(MapFacts(fabric, item))
+        for item in routed(fabric, report):
+            if isinstance(item, MapFacts):
+                self.items.append(item)
             elif isinstance(item, Routed):
                 self.items.append(RoutesFacts(item))
+            elif isinstance(item, Broken):
+                self.items.append(BrokenFacts(item))
             elif meanings.of_line(item[1]):
                 line, words = item
                 self.items.append(LineFacts(line, words, waits.get(line) or [meanings.of_line(words)]))

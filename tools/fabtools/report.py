@@ -57,8 +57,18 @@ class Routes:
             self.ranks[words[1], int(words[2])] = int(words[3])
 
 
+class Broken:
+    """The installed routes that cross a pulled cable, by the hosts from and to which they lead."""
+
+    def __init__(self, line):
+        self.line, self.pairs = line, []
+
+    def add(self, words):
+        self.pairs.append((words[1], words[2]))
+
+
 class Report:
-    """The items of a report in order: Map, CircuitMap, Routes, or (line, words) for any other line."""
+    """The items of a report in order: Map, CircuitMap, Routes, Broken, or (line, words) for any other line."""
 
     def __init__(self, text):
         self.items, open_item = [], None
@@ -82,14 +92,24 @@ class Report:
         if words[0] == "routes" and words[1] != "refused":
             self.items.append(Routes(line))
             return self.items[-1]
+        if words[0] == "endbroken" or (words[0] == "broken" and words[1:] != ["refused", "noroutes"]):
+            self.items.append(Broken(line))
+            return self.inside(self.items[-1], words)
         self.items.append((line, words))
         return None
 
     def inside(self, item, words):
-        if words[0] in ("endmap", "endroutes"):
+        if words[0] in ("endmap", "endroutes", "endbroken"):
             return None
         item.add(words)
         return item
+
+    def standing(self, fabric):
+        """The items, each with the fabric as it stands there by the lines `pull` and `plug` so far."""
+        for item in self.items:
+            if isinstance(item, tuple):
+                fabric = fabric.after(item[1])
+            yield item, fabric
 
     def of(self, kind):
         return [it for it in self.items if isinstance(it, kind)]
@@ -129,7 +149,8 @@ def misfit(fabric, shown):
 
 
 def lacks(fabric, shown, seen):
-    """The first cable that is joined to a map's host and isn't among the seen ones, or None."""
+    """The first cable that is surely joined to a map's host and isn't among the seen ones, or None."""
+    fabric = fabric.without_planned()
     joined = reached(fabric, shown.host)
     return next((it for it in fabric.cables if it[0][0] in joined and frozenset(it) not in seen), None)
 

@@ -7,12 +7,16 @@ from fabtools.report import Map, Report, Routes, misfit, place, real_end
 
 
 class Run:
-    """The fabric of a text, and what the last map and the last routes of a report say of it."""
+    """The fabric of a text, first, last and as it stood when the last map was made, and what that map and the last routes of a report say of it."""
 
     def __init__(self, text, report=""):
-        self.fabric, self.report = fabrics.read(text), Report(report)
-        maps, routes = self.report.of(Map), self.report.of(Routes)
-        self.shown = maps[-1] if maps else None
+        self.first, self.report = fabrics.read(text), Report(report)
+        standing = list(self.report.standing(self.first))
+        self.last = standing[-1][1] if standing else self.first
+        maps, routes = [it for it in standing if isinstance(it[0], Map)], self.report.of(Routes)
+        self.shown, self.fabric = maps[-1] if maps else (None, self.first)
+        # The routes are those of the last map before them.
+        self.routed = next((over for it, over in reversed(maps) if routes and it.line < routes[-1].line), self.fabric)
         self.at = place(self.fabric, self.shown) if self.shown else {}
         self.routes = routes[-1].routes if routes else []
         self.routes_line = routes[-1].line if routes else 0
@@ -44,12 +48,12 @@ class Run:
         """The channels of the route from one host to another, as pairs of ends; none where there is no route."""
         for one, other, turns in self.routes:
             if (one, other) == (sender, receiver):
-                return fabrics.follow(self.fabric, one, turns)[0]
+                return fabrics.follow(self.routed, one, turns)[0]
         return []
 
     def loads(self):
         """How many routes use each channel."""
         load = Counter()
         for sender, _, turns in self.routes:
-            load.update(fabrics.follow(self.fabric, sender, turns)[0])
+            load.update(fabrics.follow(self.routed, sender, turns)[0])
         return load

@@ -41,8 +41,7 @@ def check_line(fabric, line, words):
         return
     values = [value(line, it, word) for it, word in zip(SCRIPT_FORMS[first], words)]
     at_hosts(fabric, line, [word for it, word in zip(SCRIPT_FORMS[first], words) if it in ("H", "B")])
-    if "V" in SCRIPT_FORMS[first]:
-        fabrics.check_end(fabric, line, (values[0], values[1]))
+    fabrics.check_ends(fabric, line, [(values[at], values[at + 1]) for at, it in enumerate(SCRIPT_FORMS[first]) if it in ("V", "W")])
 
 
 def no_such_line(first):
@@ -91,17 +90,17 @@ def next_words(fabric, words):
         firsts = [it for it in SCRIPT_FORMS if it != "end"]
         return list(dict.fromkeys(it.split()[len(words)] for it in firsts if it.split()[: len(words)] == words and len(it.split()) > len(words)))
     form, at = SCRIPT_FORMS[first], len(words) - len(first.split())
-    return choices(fabric, form[at], words[-1]) if at < len(form) else []
+    return choices(fabric, form[at], words[-1], first == "plug") if at < len(form) else []
 
 
-def choices(fabric, field, before):
-    """The words that may stand for this name of a form, with the word before them; none where they are many."""
+def choices(fabric, field, before, is_free):
+    """The words that may stand for this name of a form, with the word before them; none where they are many. Ports are free ones or cabled ones."""
     if field in ("H", "B"):
         return list(fabric.hosts)
-    if field == "V":
+    if field in ("V", "W"):
         return fabric.vertices()
-    if field == "P":
-        return [str(it) for it in range(fabric.ports(before)) if fabric.far((before, it))]
+    if field in ("P", "Q"):
+        return [str(it) for it in range(fabric.ports(before)) if is_free == (not fabric.far((before, it)))]
     least, most = forms.SENSIBLE.get(field) or forms.RANGES.get(field, (0, forms.MANY))
     return [str(it) for it in range(least, most + 1)] if most - least < forms.MANY else []
 

@@ -1,6 +1,7 @@
 """What waits after a settle, and for what: the script's calls and the report's answers, followed side by side."""
 
-from fabtools.report import Routes, Shown
+from fabtools import fabric as fabrics
+from fabtools.report import Broken, Routes, Shown
 from fabtools.words import counted
 
 
@@ -18,10 +19,12 @@ def fragments(length):
 
 
 class Calls:
-    """What clients have done so far: ports that are open, tokens that are provided, and messages that aren't taken."""
+    """What was done so far: ports that are open, tokens that are provided, messages that aren't taken, tables that are active;
+    the fabric as it stands, the cables that the last and the installed routes cross, and those pulled since these were installed."""
 
-    def __init__(self):
+    def __init__(self, fabric):
         self.open, self.provided, self.sent, self.tables, self.is_known = set(), {}, {}, {}, True
+        self.fabric, self.crossed, self.installed, self.cut = fabric, {}, {}, set()
 
     def call(self, line, words, answer):
         """One call of a script, at its line, with the words of its answer after its host and port."""
@@ -38,8 +41,27 @@ class Calls:
         elif words[0] == "send":
             message = (line, (words[3], words[4]), int(words[5]), int(words[6]))
             self.sent.setdefault((words[1], words[3], message[2]), []).append(message)
-        elif words[0] == "step":
+        elif words[0] == "step" or words[:2] == ["plan", "pull"]:
             self.is_known = False
+        else:
+            self.change(words, answer)
+
+    def change(self, words, answer):
+        """A line that changes cables or routes."""
+        before, self.fabric = self.fabric, self.fabric.after(answer)
+        self.cut |= {frozenset(it) for it in before.cables if it not in self.fabric.cables}
+        if words[0] == "install":
+            self.installed, self.cut = self.crossed, set()
+        elif words[0] == "revoke":
+            self.tables = {}
+
+    def compute(self, routes):
+        """Routes were computed: which cables each crosses."""
+        self.crossed = {(a, b): {frozenset(it) for it in fabrics.follow(self.fabric, a, turns)[0]} for a, b, turns in routes}
+
+    def is_cut(self, sender, receiver):
+        """Whether a cable of the installed route was pulled since it was installed."""
+        return not self.cut.isdisjoint(self.installed.get((sender, receiver), ()))
 
     def settle(self):
         """Each message that can be taken is."""
@@ -61,8 +83,12 @@ class Calls:
         """Why the first message of a pair of hosts and a priority can't be taken and acknowledged, or None."""
         _, port, prio, length = self.sent[lane][0]
         size = least_size(length)
+        if self.tables.get(lane[0]) != "active":
+            return f"{lane[0]} has no routes, so it can't send: 'install' again"
         if self.tables.get(lane[1]) != "active":
             return f"{lane[1]} has no routes, so it can't acknowledge: 'install' again"
+        if self.is_cut(*lane[:2]) or self.is_cut(lane[1], lane[0]):
+            return "its route, or the one back, crosses a pulled cable: 'map', 'routes', 'revoke', 'install'"
         if port not in self.open:
             return f"port {port[1]} of {port[0]} isn't open"
         if (size, prio) not in self.provided.get(port, []):
@@ -79,14 +105,16 @@ class Calls:
                 yield f"{first}: {self.cause(lane)}"
 
 
-def after_settles(script, items):
+def after_settles(fabric, items):
     """For the line of each settle in a report: what waits after it, where its count of unacknowledged fragments agrees."""
-    calls, told, items = Calls(), {}, list(items)
-    for line, words in script:
+    calls, told, items = Calls(fabric), {}, list(items)
+    for line, words in fabric.script:
         if not items:
             break
         item = items.pop(0)
-        if isinstance(item, (Shown, Routes)):
+        if isinstance(item, Routes):
+            calls.compute(item.routes)
+        if isinstance(item, (Shown, Routes, Broken)):
             continue
         at, answer = item
         calls.call(line, words, answer)

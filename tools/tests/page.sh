@@ -8,3 +8,5 @@ page ../../examples/torus.in < ../../examples/torus.out | grep -c '<g class="cab
 page ../../examples/torus.in ../../examples/torus.out | grep -Eo '<g class="cable" id="c31".*'
 page ../../examples/cut-leaf.in ../../examples/cut-leaf.out | grep -Eo '<g class="vertex [^"]*lost" id="[^"]*"'
 page ../../examples/self-cabled-map.in ../../examples/self-cabled-map.out --layout ring | grep -Eo '<g class="vertex [^"]*outside".*' | grep -Eo '<title>.*</title>'
+# Cables that came and went.
+page ../../examples/pulled-and-plugged.in ../../examples/pulled-and-plugged.out | grep -Eo '<b>[0-9]+</b> (pulled|plugged)'

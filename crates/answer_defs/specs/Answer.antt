@@ -4,6 +4,8 @@ use Rattle.std.specs.Prelude.{Option, Some, None, option_map}
 use Rattle.std.specs.List.{filter, list_any, range_with_len}
 use Rattle.net_defs.specs.declared.route.Route.{Route}
 use Rattle.net_defs.specs.Network.{Network}
+use Rattle.net_defs.specs.Building.{with_cable}
+use Rattle.port_graph.specs.Removing.{without_cable}
 use Rattle.map_defs.specs.declared.rank.RankEntry.{RankEntry}
 use Rattle.map_defs.specs.NetMap.{NetMap, hosts_of}
 use Rattle.port_ledgers.specs.declared.lane.Lane.{Lane}
@@ -17,15 +19,16 @@ use Rattle.line_forms.specs.declared.line.MapSaid.TheVariants.{Complete}
 use Rattle.line_forms.specs.declared.line.ReceivedLine.{ReceivedLine}
 use Rattle.line_forms.specs.declared.line.ReportLine.{ReportLine}
 use Rattle.line_forms.specs.declared.line.ReportLine.TheVariants.{Map, Opened, Closed, Provided, Accepted, Returned}
-use Rattle.line_forms.specs.declared.line.ReportLine.TheVariants.{Received}
+use Rattle.line_forms.specs.declared.line.ReportLine.TheVariants.{Received, Pull, Plug}
 
 -- What the lines of one command say: one line alone, a line with the map that its further lines are, routes with their
--- ranks, or the hosts of the tables of an installation.
+-- ranks, the hosts of the tables of an installation, or the senders and receivers of broken routes.
 pub data Answer : Type 0 where
   Alone : ReportLine → Answer
   WithMap : ReportLine → NetMap → Answer
   WithRoutes : List Route → List RankEntry → Answer
   WithTables : List ℕ → Answer
+  WithBroken : List (ℕ × ℕ) → Answer
 
 -- A command with its answer.
 pub record Answered : Type 0 where
@@ -58,6 +61,26 @@ shown_by a before = before
 abbrev pub shown_map : List Answered → Option NetMap
 shown_map [] = None
 shown_map (t ∷ before) = shown_by t.answer (shown_map before)
+
+-- the fabric after an answer: without the cable that was pulled, or with the one that was plugged
+abbrev pub fabric_by : Answer → Network → Network
+fabric_by (Alone (Pull at true)) n = without_cable n at
+fabric_by (Alone (Plug a b true)) n = with_cable n a b
+fabric_by a n = n
+
+-- The fabric as it stands, by the lines `pull` and `plug` so far that are `done`.
+abbrev pub fabric_after : Network → List Answered → Network
+fabric_after n [] = n
+fabric_after n (t ∷ before) = fabric_by t.answer (fabric_after n before)
+
+-- an answer has tables: its routes were adopted
+abbrev pub has_tables : Answer → Bool
+has_tables (WithTables hosts) = true
+has_tables a = false
+
+-- Routes are adopted.
+abbrev pub are_adopted : List Answered → Bool
+are_adopted before = list_any (λ t. has_tables t.answer) before
 
 -- an answer has routes
 abbrev pub has_routes : Answer → Bool

@@ -9,7 +9,7 @@ use Rattle.map_defs.specs.Ranks.{IsCertificate}
 use Rattle.run_defs.specs.declared.command.Command.{Command}
 use Rattle.answer_defs.specs.declared.why.Why.{Why}
 use Rattle.answer_defs.specs.declared.why.Why.TheVariants.{Map, Route, Rank, Message, Token}
-use Rattle.answer_defs.specs.Answer.{Answer, WithRoutes, Answered, answered, complete_map}
+use Rattle.answer_defs.specs.Answer.{Answer, WithRoutes, Answered, answered, complete_map, fabric_after}
 use Rattle.answer_defs.specs.Right.{MapIsTrue, LeadsBetween, AreWhole, MessagesAreTrue, TokensAreTrue}
 
 -- Routes fail at a place among their lines: there is no complete map or a pair has none (the first line), or one
@@ -28,7 +28,7 @@ pub data RoutesFail : Option NetMap → List HostRoute → List RankEntry → (p
 -- An answer of the right form fails at a place among its lines; where a message and a token fail at one line, the
 -- message does.
 pub data Fails (n : Network) (before : List Answered) (c : Command) : Answer → (place : ℕ) → Why → Type 0 where
-  map_fails : {a : Answer} → ¬ MapIsTrue n a → Fails n before c a 0 Map
+  map_fails : {a : Answer} → ¬ MapIsTrue (fabric_after n before) a → Fails n before c a 0 Map
   routes_fail : {found : List HostRoute} {ranks : List RankEntry} {place : ℕ} {why : Why}
       → RoutesFail (complete_map before) found ranks place why → Fails n before c (WithRoutes found ranks) place why
   message_fails : {a : Answer} → ¬ MessagesAreTrue before (answered c a) → Fails n before c a 0 Message

@@ -14,7 +14,8 @@ use Rattle.port_ledgers.specs.Told.{Told, AreInOrder}
 use Rattle.port_ledgers.specs.Held.{port_told, AreTokensRight, AreAllPlaced}
 use Rattle.line_forms.specs.declared.line.MapSaid.TheVariants.{Complete}
 use Rattle.line_forms.specs.declared.line.ReportLine.TheVariants.{Map, Received, Tokens}
-use Rattle.answer_defs.specs.Answer.{Answer, Alone, WithMap, WithRoutes, Answered, complete_map, told_in, told}
+use Rattle.answer_defs.specs.Answer.{Answer, Alone, WithMap, WithRoutes, Answered, complete_map, fabric_after}
+use Rattle.answer_defs.specs.Answer.{told_in, told}
 
 -- A map under the word `complete` is the mapper's part of the fabric, up to the offset of each switch.
 abbrev pub MapIsTrue : Network → Answer → Type 0
@@ -66,9 +67,9 @@ pub record TokensAreTrue (before : List Answered) (t : Answered) : Type 0 where
   pub calls : AllByRecursion (AreTokensRight (told before)) (told_in t.command t.answer)
   pub places : PlacesAreTrue (told before) t.answer
 
--- All that is judged of an answer of the right form.
+-- All that is judged of an answer of the right form; its map over the fabric as it stands.
 pub record IsRight (n : Network) (before : List Answered) (t : Answered) : Type 0 where
-  pub maps : MapIsTrue n t.answer
+  pub maps : MapIsTrue (fabric_after n before) t.answer
   pub routes : RoutesAreTrue before t.answer
   pub messages : MessagesAreTrue before t
   pub tokens : TokensAreTrue before t

@@ -18,8 +18,8 @@ use Rattle.run_defs.specs.declared.line.ClientCall.{ClientCall}
 use Rattle.run_defs.specs.declared.line.StepWords.{StepWords}
 use Rattle.run_defs.specs.declared.line.StepWords.TheVariants.{Idle, Injected, Moved, Blocked, Arrived, Dropped, Lost, Reset, Flipped, Expired, GaveUp, Repeated, Held, Replayed}
 use Rattle.run_defs.specs.declared.line.Line.{Line}
-use Rattle.run_defs.specs.declared.line.Line.TheVariants.{Refused, Walk, Map, MapBusy, Circuit, CircuitNodes, Routes, Route, Rank, EndRoutes, NoMap, Installed, Table, InstallRefused, Client, Tokens, PlanAt, Step, Settle, Finish, GenHead, GenMap, GenCount, Duo}
-use Rattle.run_defs.specs.LineText.{call_word, host_name, end_words, walk_words, said_words, step_words, turn_text, vertex_text, vertex_words, vertices_text, vertex_at, cable_words, map_text, words_in, piece_text, output_text}
+use Rattle.run_defs.specs.declared.line.Line.TheVariants.{Refused, Walk, Map, MapBusy, Circuit, CircuitNodes, Routes, Route, Rank, EndRoutes, NoMap, Installed, Table, InstallRefused, Client, Tokens, PlanAt, Step, Settle, Finish, GenHead, GenMap, GenCount, Duo, Pull, Plug, Revoked, Broken, EndBroken, NoBroken}
+use Rattle.run_defs.specs.LineText.{call_word, host_name, end_words, pull_words, plug_words, walk_words, said_words, step_words, turn_text, vertex_text, vertex_words, vertices_text, vertex_at, cable_words, map_text, words_in, piece_text, output_text}
 use Rattle.run_defs.specs.Output.{Piece, OneLine, MapLines}
 use Rattle.run_defs.specs.Summary.{figures_in}
 use Rattle.fab_report.specs.Printed.{PrintedState, printed_of}
@@ -92,6 +92,14 @@ words-bare n (GenHead count seed hosts switches cables) = refl
 words-bare n (GenMap words asks packets) = refl
 words-bare n (GenCount taken received) = refl
 words-bare n (Duo did) = refl
+words-bare n (Pull at done) = ap (λ name. codes "pull" ∷ name ∷ decimal at.p ∷ pull_words done) (name-bare n at.v)
+words-bare n (Plug a b words) =
+    ap (λ name. codes "plug" ∷ name ∷ decimal a.p ∷ name_of n b.v ∷ decimal b.p ∷ plug_words words) (name-bare n a.v)
+    ∙ ap (λ name. codes "plug" ∷ name_of (bare n) a.v ∷ decimal a.p ∷ name ∷ decimal b.p ∷ plug_words words) (name-bare n b.v)
+words-bare n (Revoked count) = refl
+words-bare n (Broken from to) = refl
+words-bare n EndBroken = refl
+words-bare n NoBroken = refl
 
 -- the lines of a map
 marked-bare : (n : Network) (v : MapVertex) (core : Bool) → vertex_words n v core ≡ vertex_words (bare n) v core

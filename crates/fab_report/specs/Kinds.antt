@@ -2,6 +2,7 @@
 use Rattle.run_defs.specs.declared.line.Line.{Line}
 use Rattle.run_defs.specs.declared.line.Line.TheVariants.{Map, MapBusy, Circuit, CircuitNodes, Routes, Route, Rank}
 use Rattle.run_defs.specs.declared.line.Line.TheVariants.{EndRoutes, NoMap, Client, Tokens, GenHead, GenMap, GenCount}
+use Rattle.run_defs.specs.declared.line.Line.TheVariants.{Pull, Plug, Revoked, Broken, EndBroken, NoBroken}
 
 -- a line of a map, of routes or of ranks
 abbrev pub IsMapLine : Line → Type 0
@@ -21,6 +22,16 @@ abbrev pub IsPortLine : Line → Type 0
 IsPortLine (Client call host port said) = Unit {0}
 IsPortLine (Tokens host port sends recvs) = Unit {0}
 IsPortLine _ = ⊥
+
+-- a line of cables: pulled, plugged, given up, or broken routes
+abbrev pub IsCableLine : Line → Type 0
+IsCableLine (Pull at done) = Unit {0}
+IsCableLine (Plug a b words) = Unit {0}
+IsCableLine (Revoked count) = Unit {0}
+IsCableLine (Broken from to) = Unit {0}
+IsCableLine EndBroken = Unit {0}
+IsCableLine NoBroken = Unit {0}
+IsCableLine _ = ⊥
 
 -- a line that a generated run alone has
 abbrev pub IsGeneratedLine : Line → Type 0

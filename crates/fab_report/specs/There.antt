@@ -11,7 +11,7 @@ use Rattle.run_defs.specs.declared.line.StepWords.{StepWords}
 use Rattle.run_defs.specs.declared.line.StepWords.TheVariants.{Moved, Blocked, Arrived, Replayed}
 use Rattle.run_defs.specs.declared.line.Line.{Line}
 use Rattle.run_defs.specs.declared.line.Line.TheVariants.{Walk, Map, MapBusy, Circuit, CircuitNodes, Route, Rank}
-use Rattle.run_defs.specs.declared.line.Line.TheVariants.{Table, Client, Tokens, Step}
+use Rattle.run_defs.specs.declared.line.Line.TheVariants.{Table, Client, Tokens, Step, Pull, Plug, Broken}
 
 -- a host of the fabric
 abbrev pub IsHost : Network → ℕ → Type 0
@@ -48,4 +48,7 @@ AreThere n (Table host active) = IsHost n host
 AreThere n (Client call host port said) = IsHost n host × IsSaidOf n said
 AreThere n (Tokens host port sends recvs) = IsHost n host
 AreThere n (Step words) = AreWordsOf n words
+AreThere n (Pull at done) = IsTrue (has_vertex n at.v)
+AreThere n (Plug a b words) = IsTrue (has_vertex n a.v) × IsTrue (has_vertex n b.v)
+AreThere n (Broken from to) = IsHost n from × IsHost n to
 AreThere n _ = Unit {0}

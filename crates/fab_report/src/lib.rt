@@ -13,6 +13,7 @@
 //! | `line` | the call, and the lines of a few words |
 //! | `mapping` | the lines of maps, routes and ranks |
 //! | `circuit` | the lines of a map of circuit links |
+//! | `cables` | the lines of cables that are pulled and plugged, and of broken routes |
 //! | `client` | what a client's call was answered |
 //! | `step` | what one event did |
 //! | `duo` | what one event of the two hosts that restart did |
@@ -23,6 +24,7 @@
 //! | `words` | the words of turns, vertices and bytes |
 #![tactic(auto)]
 
+mod cables;
 mod circuit;
 mod client;
 mod duo;
@@ -38,6 +40,6 @@ mod words;
 pub use line::{print_line, print_line_onto, print_route_onto};
 pub use printed::Printed;
 pub use run_defs::{
-    ClientCall, Figure, InstallCause, Line, MapWords, PlaceEntry, PlaceList, StepWords,
+    ClientCall, Figure, InstallCause, Line, MapWords, PlaceEntry, PlaceList, PlugWords, StepWords,
 };
 pub use summary::{begin_summary, end_summary};

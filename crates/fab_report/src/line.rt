@@ -10,6 +10,7 @@ ghost use Rattle.run_defs.specs.declared.line.Line.TheVariants.{Walk, Table};
 ghost use Rattle.fab_report.specs.Kinds.{IsPortLine};
 ghost use Rattle.fab_report.specs.There.{AreThere, IsHost};
 
+use crate::cables::append_cable_line;
 use crate::client::client_line;
 use crate::duo::duo_line;
 use crate::generated::append_generated_line;
@@ -92,6 +93,12 @@ fn append_line(text: &mut Vec<u8>, l: &Line, f: &Fabric) -> Result<(), AllocErro
         Line::GenHead { .. } | Line::GenMap { .. } | Line::GenCount { .. } => {
             append_generated_line(text, l)
         }
+        Line::Pull { .. }
+        | Line::Plug { .. }
+        | Line::Revoked(_)
+        | Line::Broken { .. }
+        | Line::EndBroken
+        | Line::NoBroken => append_cable_line(text, l, f),
         _ => append_map_line(text, l, f),
     }
 }

@@ -20,32 +20,32 @@ after-one done c (Err e) = refl
 
 -- what the lines from a line on say, where it is `end`, and where it isn't
 abbrev front_line : Bool → ℕ → Network → TextLine → List TextLine → Bool → Result ScriptPart FirstFault
-front_line duos past n l ls last =
-    if last then Ok (record { commands = []; after = ls }) else and_then (at_line l.number (allowed_command duos n (words_of l.bytes))) (λ c. and_then (front_part duos past n ls) (before_part c))
+front_line every past n l ls last =
+    if last then Ok (record { commands = []; after = ls }) else and_then (at_line l.number (allowed_command every n (words_of l.bytes))) (λ c. and_then (front_part every past n ls) (before_part c))
 
 -- one command more
-pub part-kept : (duos : Bool) (past : ℕ) (n : Network) (all : Result ScriptPart FirstFault) (done new : List Command) (ls rest : List TextLine) (l : TextLine) (c : Command)
-    → all ≡ part_after done (front_part duos past n ls) → ls ≡ l ∷ rest → false ≡ is_end (words_of l.bytes)
-    → allowed_command duos n (words_of l.bytes) ≡ Ok c → new ≡ done ++ c ∷ [] → all ≡ part_after new (front_part duos past n rest)
-part-kept duos past n all done new ls rest l c a e s g h =
+pub part-kept : (every : Bool) (past : ℕ) (n : Network) (all : Result ScriptPart FirstFault) (done new : List Command) (ls rest : List TextLine) (l : TextLine) (c : Command)
+    → all ≡ part_after done (front_part every past n ls) → ls ≡ l ∷ rest → false ≡ is_end (words_of l.bytes)
+    → allowed_command every n (words_of l.bytes) ≡ Ok c → new ≡ done ++ c ∷ [] → all ≡ part_after new (front_part every past n rest)
+part-kept every past n all done new ls rest l c a e s g h =
     a
-    ∙ ap (part_after done) (ap (front_part duos past n) e ∙ sym (ap (front_line duos past n l rest) s) ∙ ap (λ r. and_then (at_line l.number r) (λ c. and_then (front_part duos past n rest) (before_part c))) g)
-    ∙ after-one done c (front_part duos past n rest)
-    ∙ ap (λ d. part_after d (front_part duos past n rest)) (sym h)
+    ∙ ap (part_after done) (ap (front_part every past n) e ∙ sym (ap (front_line every past n l rest) s) ∙ ap (λ r. and_then (at_line l.number r) (λ c. and_then (front_part every past n rest) (before_part c))) g)
+    ∙ after-one done c (front_part every past n rest)
+    ∙ ap (λ d. part_after d (front_part every past n rest)) (sym h)
 
 -- the sound lines from a line on, where it is `end`, and where it isn't
 abbrev sound_line : Bool → Network → TextLine → List TextLine → Bool → List TextLine
-sound_line duos n l ls last =
-    if last then [] else where_sound (allowed_command duos n (words_of l.bytes)) (l ∷ front_sound duos n ls)
+sound_line every n l ls last =
+    if last then [] else where_sound (allowed_command every n (words_of l.bytes)) (l ∷ front_sound every n ls)
 
 where_sound-some : {X E : Type 0} (r : Result X E) (l : TextLine) (ls : List TextLine) → IsOk r → 0 < length (where_sound r (l ∷ ls))
 where_sound-some (Ok x) l ls o = omega arith
 where_sound-some (Err e) l ls o = cc
 
 -- a line of a command is sound
-pub sound-command : (duos : Bool) (n : Network) (ls rest : List TextLine) (l : TextLine) → ls ≡ l ∷ rest → false ≡ is_end (words_of l.bytes) → IsOk (allowed_command duos n (words_of l.bytes)) → 0 < length (front_sound duos n ls)
-sound-command duos n ls rest l e s o =
-    subst (λ k. 0 < length k) (sym (ap (front_sound duos n) e ∙ sym (ap (sound_line duos n l rest) s))) (where_sound-some (allowed_command duos n (words_of l.bytes)) l (front_sound duos n rest) o)
+pub sound-command : (every : Bool) (n : Network) (ls rest : List TextLine) (l : TextLine) → ls ≡ l ∷ rest → false ≡ is_end (words_of l.bytes) → IsOk (allowed_command every n (words_of l.bytes)) → 0 < length (front_sound every n ls)
+sound-command every n ls rest l e s o =
+    subst (λ k. 0 < length k) (sym (ap (front_sound every n) e ∙ sym (ap (sound_line every n l rest) s))) (where_sound-some (allowed_command every n (words_of l.bytes)) l (front_sound every n rest) o)
 
 -- a script of which a part was read
 abbrev pub whole : Result ScriptPart FirstFault → Result (List Command) FirstFault

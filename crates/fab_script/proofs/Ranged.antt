@@ -21,13 +21,14 @@ use Rattle.duo_defs.specs.declared.event.DuoEvent.{DuoEvent}
 use Rattle.duo_defs.specs.declared.event.DuoEvent.TheVariants.{Send as DuoSend, Provide as DuoProvide, Emit, Deliver, Expire as DuoExpire, Poll as DuoPoll, Restart}
 use Rattle.duo_defs.specs.Step.{IsFair}
 use Rattle.run_defs.specs.declared.command.Command.{Command}
-use Rattle.run_defs.specs.declared.command.Command.TheVariants.{Walk, Map, Circuit, Routes, Install, Begin, Close, Poll, Tokens, Provide, Send, Plan, Step, Settle, Duo}
+use Rattle.run_defs.specs.declared.command.Command.TheVariants.{Walk, Map, Circuit, Routes, Install, Begin, Close, Poll, Tokens, Provide, Send, Plan, Step, Settle, Duo, Pull, Plug, Revoke, Broken}
 use Rattle.run_defs.specs.declared.command.PlanKind.{PlanKind}
-use Rattle.run_defs.specs.declared.command.PlanKind.TheVariants.{Lose as PlanLose, Repeat as PlanRepeat, Hold as PlanHold, Flip as PlanFlip}
+use Rattle.run_defs.specs.declared.command.PlanKind.TheVariants.{Lose as PlanLose, Repeat as PlanRepeat, Hold as PlanHold, Flip as PlanFlip, Pull as PlanPull}
 use Rattle.run_defs.specs.declared.command.StepLine.{StepLine}
 use Rattle.run_defs.specs.declared.command.StepLine.TheVariants.{Inject, GiveUp, Advance, Lose, Repeat, Hold, Reset, Flip, Expire, Replay}
-use Rattle.run_defs.specs.Script.{Form, OfName, OfNumber, Value, Name, Number, value_of, values_of, said_by, from_least, LineKind, command_by, address_of, at_host, at_hosts, end_at, at_end, of_port, of_switch_port, of_count, of_prio, of_tries, of_ahead, of_bit, of_pattern, map_meant, circuit_meant, alone_meant, install_meant, open_meant, at_port_meant, provide_meant, send_meant, plan_meant, plan_flip_meant, host_step_meant, end_step_meant, flip_step_meant, expire_meant, replay_meant, of_end, duo_meant, duo_send_meant, duo_provide_meant, duo_kinds, line_kinds, plan_kinds, step_kinds, by_second, turns_of, walk_said, command_as, command_of, is_end, ended, script_from, script_reading}
+use Rattle.run_defs.specs.Script.{Form, OfName, OfNumber, Value, Name, Number, value_of, values_of, said_by, from_least, LineKind, command_by, address_of, at_host, at_hosts, end_at, at_end, two_ends_at, of_port, of_switch_port, of_count, of_prio, of_tries, of_ahead, of_bit, of_pattern, map_meant, circuit_meant, alone_meant, install_meant, open_meant, at_port_meant, provide_meant, send_meant, plan_meant, plan_flip_meant, plan_pull_meant, pull_meant, plug_meant, host_step_meant, end_step_meant, flip_step_meant, expire_meant, replay_meant, of_end, duo_meant, duo_send_meant, duo_provide_meant, duo_kinds, line_kinds, plan_kinds, step_kinds, by_second, turns_of, walk_said, command_as, command_of, is_end, ended, script_from, script_reading}
 use Rattle.fab_script.specs.Ranges.{IsHost, IsEnd, IsWithin, IsPlanned, IsStepOf, IsDuoOf, IsCommandOf}
+use Rattle.script_lines.specs.Values.{cable_kinds}
 use Rattle.script_lines.proofs.Turns.{within, turns-walk}
 
 -- a value of a form, and values of forms
@@ -144,6 +145,29 @@ end-of n name p command c e k = by (vertex_named n name) e
     by None e = cc
     by (Some v) e = port v (nat_lt p (ports_of n v)) refl e
 
+-- a port that its vertex has
+end-there : (n : Network) (v : Vertex) (p : ℕ) (e : End) → end_at n (Some v) p ≡ Ok e → IsEnd n e
+end-there n v p e h = by (nat_lt p (ports_of n v)) refl h
+  where
+    by : (b : Bool) → nat_lt p (ports_of n v) ≡ b → ◌≡◌ {A = Result End FaultKind} (if b then Ok (record { v = v; p = p }) else Err PortRange) (Ok e) → IsEnd n e
+    by true f h = let one : ◌≡◌ {A = End} (record { v = v; p = p }) e = cc in subst (IsEnd n) one f
+    by false f h = cc
+
+-- a command at two ends
+ends-of : (n : Network) (a b : List ℕ) (p q : ℕ) (command : End → End → Command) (c : Command) → two_ends_at n (vertex_named n a) p (vertex_named n b) q command ≡ Ok c
+    → ((d e : End) → IsEnd n d → IsEnd n e → IsCommandOf n (command d e)) → IsCommandOf n c
+ends-of n a b p q command c h k = by (vertex_named n a) (vertex_named n b) h
+  where
+    both : (r s : Result End FaultKind) → ((d : End) → r ≡ Ok d → IsEnd n d) → ((e : End) → s ≡ Ok e → IsEnd n e) → and_then r (λ d. and_then s (λ e. Ok (command d e))) ≡ Ok c → IsCommandOf n c
+    both (Ok d) (Ok e) f g h = let one : command d e ≡ c = cc in subst (IsCommandOf n) one (k d e (f d refl) (g e refl))
+    both (Ok d) (Err fault) f g h = cc
+    both (Err fault) s f g h = cc
+
+    by : (u v : Option Vertex) → two_ends_at n u p v q command ≡ Ok c → IsCommandOf n c
+    by None v h = cc
+    by (Some u) None h = cc
+    by (Some u) (Some v) h = both (end_at n (Some u) p) (end_at n (Some v) q) (end-there n u p) (end-there n v q) h
+
 -- a kind of line whose commands are over the fabric
 abbrev IsRanged : Network → LineKind → Type 0
 IsRanged n k = (vs : List Value) → AreIn k.forms vs → (c : Command) → k.meaning n vs ≡ Ok c → IsCommandOf n c
@@ -154,6 +178,23 @@ alone n command c h e = let one : command ≡ c = cc in subst (IsCommandOf n) on
 at-port : (n : Network) (command : ℕ → ℕ → Command) → ((h p : ℕ) → IsHost n h → IsWithin 0 7 p → IsCommandOf n (command h p))
     → (vs : List Value) → AreIn (OfName ∷ of_port ∷ []) vs → (c : Command) → at_port_meant command n vs ≡ Ok c → IsCommandOf n c
 at-port n command k = each-of (OfName ∷ of_port ∷ []) (λ vs. (c : Command) → at_port_meant command n vs ≡ Ok c → IsCommandOf n c) (λ a p ip c e. host-of n a (λ h. command h p) c e (λ h there. k h p there ip))
+
+-- lines of cables and epochs
+cable_kinds-ranged : (n : Network) → AllByRecursion (IsRanged n) cable_kinds
+cable_kinds-ranged n = (
+  each-of (OfName ∷ of_switch_port ∷ []) (λ vs. (c : Command) → pull_meant n vs ≡ Ok c → IsCommandOf n c) (λ a p ip c e. end-of n a p (λ at. Pull at) c e (λ at there. there)),
+  (
+    each-of (OfName ∷ of_switch_port ∷ OfName ∷ of_switch_port ∷ []) (λ vs. (c : Command) → plug_meant n vs ≡ Ok c → IsCommandOf n c)
+        (λ a p ip b q iq c e. ends-of n a b p q (λ d f. Plug d f) c e (λ d f there too. (there, too))),
+    (
+      each-of [] (λ vs. (c : Command) → alone_meant Revoke n vs ≡ Ok c → IsCommandOf n c) (λ c e. alone n Revoke c tt e),
+      (
+        each-of [] (λ vs. (c : Command) → alone_meant Broken n vs ≡ Ok c → IsCommandOf n c) (λ c e. alone n Broken c tt e),
+        tt,
+      ),
+    ),
+  ),
+)
 
 line_kinds-ranged : (n : Network) → AllByRecursion (IsRanged n) line_kinds
 line_kinds-ranged n = (
@@ -179,7 +220,7 @@ line_kinds-ranged n = (
                     each-of [] (λ vs. (c : Command) → alone_meant Settle n vs ≡ Ok c → IsCommandOf n c) (λ c e. alone n Settle c tt e),
                     (
                       each-of (OfName ∷ OfNumber 1 32 ∷ []) (λ vs. (c : Command) → circuit_meant n vs ≡ Ok c → IsCommandOf n c) (λ a d id c e. host-of n a (λ h. Circuit h d) c e (λ h there. (there, id))),
-                      tt,
+                      cable_kinds-ranged n,
                     ),
                   ),
                 ),
@@ -192,7 +233,7 @@ line_kinds-ranged n = (
   ),
 )
 
-plan-ranged : (n : Network) (kind : PlanKind) → IsPlanned kind → (vs : List Value) → AreIn (of_ahead ∷ []) vs → (c : Command) → plan_meant kind n vs ≡ Ok c → IsCommandOf n c
+plan-ranged : (n : Network) (kind : PlanKind) → IsPlanned n kind → (vs : List Value) → AreIn (of_ahead ∷ []) vs → (c : Command) → plan_meant kind n vs ≡ Ok c → IsCommandOf n c
 plan-ranged n kind k = each-of (of_ahead ∷ []) (λ vs. (c : Command) → plan_meant kind n vs ≡ Ok c → IsCommandOf n c) (λ a ia c e. alone n (Plan a kind) c (ia, k) e)
 
 plan_kinds-ranged : (n : Network) → AllByRecursion (IsRanged n) plan_kinds
@@ -204,7 +245,11 @@ plan_kinds-ranged n = (
       plan-ranged n PlanHold tt,
       (
         each-of (of_ahead ∷ of_bit ∷ of_pattern ∷ []) (λ vs. (c : Command) → plan_flip_meant n vs ≡ Ok c → IsCommandOf n c) (λ a ia b ib p ip c e. alone n (Plan a (PlanFlip b p)) c (ia, (ib, ip)) e),
-        tt,
+        (
+          each-of (of_ahead ∷ OfName ∷ of_switch_port ∷ []) (λ vs. (c : Command) → plan_pull_meant n vs ≡ Ok c → IsCommandOf n c)
+              (λ a ia v p ip c e. end-of n v p (λ at. Plan a (PlanPull at)) c e (λ at there. (ia, there))),
+          tt,
+        ),
       ),
     ),
   ),

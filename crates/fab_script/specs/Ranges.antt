@@ -10,10 +10,10 @@ use Rattle.duo_defs.specs.declared.event.DuoEvent.TheVariants.{Expire as DuoExpi
 use Rattle.run_defs.specs.declared.command.Command.{Command}
 use Rattle.run_defs.specs.declared.command.Command.TheVariants.{Walk, Map, Circuit, Routes, Install, Begin, Close}
 use Rattle.run_defs.specs.declared.command.Command.TheVariants.{Poll, Tokens, Provide, Send, Plan, Step, Settle, Finish}
-use Rattle.run_defs.specs.declared.command.Command.TheVariants.{Duo}
+use Rattle.run_defs.specs.declared.command.Command.TheVariants.{Duo, Pull, Plug, Revoke, Broken}
 use Rattle.run_defs.specs.declared.command.PlanKind.{PlanKind}
 use Rattle.run_defs.specs.declared.command.PlanKind.TheVariants.{Lose as PlanLose, Repeat as PlanRepeat}
-use Rattle.run_defs.specs.declared.command.PlanKind.TheVariants.{Hold as PlanHold, Flip as PlanFlip}
+use Rattle.run_defs.specs.declared.command.PlanKind.TheVariants.{Hold as PlanHold, Flip as PlanFlip, Pull as PlanPull}
 use Rattle.run_defs.specs.declared.command.StepLine.{StepLine}
 use Rattle.run_defs.specs.declared.command.StepLine.TheVariants.{Inject, GiveUp, Advance, Lose, Repeat, Hold, Reset}
 use Rattle.run_defs.specs.declared.command.StepLine.TheVariants.{Flip, Expire, Replay}
@@ -34,12 +34,13 @@ IsWithin least most v = (least ≤ v) × (v ≤ most)
 abbrev pub IsFlip : ℕ → ℕ → Type 0
 IsFlip bit pattern = IsWithin 0 10000 bit × IsWithin 1 255 pattern
 
--- the numbers of a planned fault
-abbrev pub IsPlanned : PlanKind → Type 0
-IsPlanned PlanLose = Unit {0}
-IsPlanned PlanRepeat = Unit {0}
-IsPlanned PlanHold = Unit {0}
-IsPlanned (PlanFlip bit pattern) = IsFlip bit pattern
+-- the numbers, or the end, of a planned fault
+abbrev pub IsPlanned : Network → PlanKind → Type 0
+IsPlanned n PlanLose = Unit {0}
+IsPlanned n PlanRepeat = Unit {0}
+IsPlanned n PlanHold = Unit {0}
+IsPlanned n (PlanFlip bit pattern) = IsFlip bit pattern
+IsPlanned n (PlanPull at) = IsEnd n at
 
 -- the hosts, ends and numbers of a single event
 abbrev pub IsStepOf : Network → StepLine → Type 0
@@ -79,8 +80,12 @@ IsCommandOf n (Provide h port size prio) = IsHost n h × IsWithin 0 7 port × Is
 IsCommandOf n (Send h port dest dport prio len seed) =
     IsHost n h × IsHost n dest × IsWithin 0 7 port × IsWithin 0 7 dport × IsWithin 0 1 prio × IsWithin 0 1000000 len
     × IsWithin 0 255 seed
-IsCommandOf n (Plan ahead kind) = IsWithin 1 1000000000 ahead × IsPlanned kind
+IsCommandOf n (Plan ahead kind) = IsWithin 1 1000000000 ahead × IsPlanned n kind
 IsCommandOf n (Step line) = IsStepOf n line
 IsCommandOf n Settle = Unit {0}
 IsCommandOf n Finish = Unit {0}
 IsCommandOf n (Duo e) = IsDuoOf e
+IsCommandOf n (Pull at) = IsEnd n at
+IsCommandOf n (Plug a b) = IsEnd n a × IsEnd n b
+IsCommandOf n Revoke = Unit {0}
+IsCommandOf n Broken = Unit {0}

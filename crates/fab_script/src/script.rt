@@ -7,11 +7,11 @@ ghost use Rattle.fab_text.specs.Fault.{LineGives, TextGives};
 ghost use Rattle.run_defs.specs.Script.{ended, is_end, script_reading};
 ghost use Rattle.script_lines.specs.Lists.{behind};
 ghost use Rattle.fab_script.specs.Lists.{sound_lines};
-ghost use Rattle.fab_script.specs.Parts.{begins_with_duo, allowed_command, front_part, front_sound, script_part};
-ghost use Rattle.fab_script.specs.Parts.{PartGives, FrontGives};
+ghost use Rattle.fab_script.specs.Parts.{begins_with, is_unjudged, allowed_command, front_part, front_sound};
+ghost use Rattle.fab_script.specs.Parts.{script_part, PartGives, FrontGives};
 ghost use Rattle.fab_script.specs.Ranges.{IsCommandOf};
 
-use fab_text::{FaultKind, LineFault, Lines, TextFault, is_keyword, line_count, words};
+use fab_text::{FaultKind, LineFault, Lines, TextFault, Words, is_keyword, line_count, words};
 use port_graph::Fabric;
 use run_defs::Command;
 use script_lines::read_command;
@@ -63,8 +63,8 @@ pub fn read_script(alloc: Global, text: &[u8], line: u32, f: &Fabric) -> Result<
 }
 
 /// Reads the lines of a script that a report follows: up to `end`, after which `left` stands then. Its first fault is
-/// that of `read_script`, but that a line `duo` is `BadWord`, that no line after `end` is a fault, and that without
-/// `end` the line `past` is named.
+/// that of `read_script`, but that a line `duo` or `plan pull` is `BadWord`, since no report says enough of it, that no
+/// line after `end` is a fault, and that without `end` the line `past` is named.
 pub fn read_script_part(
     alloc: Global,
     left: &mut Lines,
@@ -98,27 +98,27 @@ fn read_lines(alloc: Global, text: &[u8], line: u32, f: &Fabric) -> Result<Scrip
     }
 }
 
-// The commands of the lines before `end`, after which `left` stands then; of lines `duo` only where they are allowed.
-// Without `end` the line is named that comes so many after `past` as `text` has: they are counted only then.
+// The commands of the lines before `end`, after which `left` stands then; `every` allows lines of which no report says
+// enough. Without `end` the line is named that comes so many after `past` as `text` has: they are counted only then.
 fn read_front(
     alloc: Global,
     left: &mut Lines,
     past: u32,
     text: &[u8],
     f: &Fabric,
-    duos: bool,
+    every: bool,
 ) -> Result<Vec<Command>, TextFault>
     requires { (length text.now ≤ 4294967290) × (past + line_count text.now ≤ 4294967295) }
-    ensures reading { FrontGives (front_part duos (past + line_count text.now) f.now (lines_left left.old))
+    ensures reading { FrontGives (front_part every (past + line_count text.now) f.now (lines_left left.old))
         (lines_left left.new) result }
-    ensures memory { IsErrOf result TextFault.NoMemory → 0 < length (front_sound duos f.now (lines_left left.old)) }
+    ensures memory { IsErrOf result TextFault.NoMemory → 0 < length (front_sound every f.now (lines_left left.old)) }
 {
     let mut commands = Vec::new(alloc);
     'lines: while let Some((number, line)) = left.next_line() {
         if is_end(line) {
             return Ok(commands);
         }
-        let command = match read_allowed(alloc, f, line, duos) {
+        let command = match read_allowed(alloc, f, line, every) {
             Ok(command) => command,
             Err(fault) => return Err(fault.at(number)),
         };
@@ -132,23 +132,36 @@ fn read_front(
     })
 }
 
-// The command of a line, where lines `duo` are commands, or where they are none.
-fn read_allowed(alloc: Global, f: &Fabric, line: &[u8], duos: bool) -> Result<Command, LineFault>
-    ensures reading { LineGives (allowed_command duos f.now (words_of line.now)) result }
-    ensures memory { IsErrOf result LineFault.NoMemory → IsOk (allowed_command duos f.now (words_of line.now)) }
+// The command of a line, where each is one, or where those of which no report says enough are none.
+fn read_allowed(alloc: Global, f: &Fabric, line: &[u8], every: bool) -> Result<Command, LineFault>
+    ensures reading { LineGives (allowed_command every f.now (words_of line.now)) result }
+    ensures memory { IsErrOf result LineFault.NoMemory → IsOk (allowed_command every f.now (words_of line.now)) }
 {
-    if !duos && begins_with_duo(line) {
+    if !every && is_unjudged(words(line)) {
         return Err(LineFault::Wrong(FaultKind::BadWord));
     }
     read_command(alloc, f, line)
 }
 
-// Whether the first word of a line is `duo`.
-fn begins_with_duo(line: &[u8]) -> bool
-    ensures { result ≡ begins_with_duo (words_of line.now) }
+// Whether no report says enough of a line: `duo` or `plan pull`.
+fn is_unjudged(mut left: Words) -> bool
+    ensures { result ≡ is_unjudged (words_of left.entry) }
 {
-    match words(line).next_word() {
-        Some(first) => first == b"duo".as_slice(),
+    match left.next_word() {
+        Some(first) => {
+            first == b"duo".as_slice()
+                || (first == b"plan".as_slice() && begins_with(b"pull", left))
+        }
+        None => false,
+    }
+}
+
+// Whether the first of the words is this one.
+fn begins_with(word: &[u8], mut left: Words) -> bool
+    ensures { result ≡ begins_with word.now (words_of left.entry) }
+{
+    match left.next_word() {
+        Some(first) => first == word,
         None => false,
     }
 }

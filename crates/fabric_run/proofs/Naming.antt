@@ -7,7 +7,9 @@ use Rattle.net_defs.specs.declared.vertex.Cable.{Cable}
 use Rattle.net_defs.specs.Network.{Network, NamedSwitch, ports_of}
 use Rattle.world_defs.specs.World.{fabric_of}
 use Rattle.run_defs.specs.declared.command.Command.{Command}
-use Rattle.run_defs.specs.declared.command.Command.TheVariants.{Walk, Map, Circuit, Routes, Install, Begin, Close, Poll, Tokens, Provide, Send, Plan, Step, Settle, Finish, Duo}
+use Rattle.run_defs.specs.declared.command.Command.TheVariants.{Walk, Map, Circuit, Routes, Install, Begin, Close, Poll, Tokens, Provide, Send, Plan, Step, Settle, Finish, Duo, Pull, Plug, Revoke, Broken}
+use Rattle.run_defs.specs.declared.command.PlanKind.{PlanKind}
+use Rattle.run_defs.specs.declared.command.PlanKind.TheVariants.{Lose as LosePlan, Repeat as RepeatPlan, Hold as HoldPlan, Flip as FlipPlan, Pull as PullPlan}
 use Rattle.run_defs.specs.declared.command.StepLine.{StepLine}
 use Rattle.run_defs.specs.declared.command.StepLine.TheVariants.{Inject, GiveUp, Advance, Lose, Repeat, Hold, Reset, Flip, Expire, Replay}
 use Rattle.run_defs.specs.declared.figure.Figure.{Figure}
@@ -18,7 +20,7 @@ use Rattle.run_defs.specs.Session.{SessionState}
 use Rattle.fab_report.specs.Printed.{PrintedState, figure_lines}
 use Rattle.fab_report.proofs.Names.{printed-named}
 use Rattle.promise_laws.specs.OneAction.{VerticesStay}
-use Rattle.fab_script.specs.Ranges.{IsEnd, IsStepOf, IsCommandOf}
+use Rattle.fab_script.specs.Ranges.{IsEnd, IsPlanned, IsStepOf, IsCommandOf}
 use Rattle.fabric_run.specs.Ends.{HasVerticesOf}
 use Rattle.fabric_run.specs.Generated.{IsSummaryOf}
 
@@ -65,6 +67,13 @@ module _ (hosts : List (List ℕ)) (switches : List NamedSwitch) (xs ys : List C
   step-same (Expire h peer) is = is
   step-same (Replay serial) is = is
 
+  plan-same : (kind : PlanKind) → IsPlanned with_xs kind → IsPlanned with_ys kind
+  plan-same LosePlan is = is
+  plan-same RepeatPlan is = is
+  plan-same HoldPlan is = is
+  plan-same (FlipPlan bit pattern) is = is
+  plan-same (PullPlan at) is = end-same at is
+
   command-same : (c : Command) → IsCommandOf with_xs c → IsCommandOf with_ys c
   command-same (Walk h turns) is = is
   command-same (Map h depth tries) is = is
@@ -77,11 +86,15 @@ module _ (hosts : List (List ℕ)) (switches : List NamedSwitch) (xs ys : List C
   command-same (Tokens h port) is = is
   command-same (Provide h port size prio) is = is
   command-same (Send h port dest dport prio len seed) is = is
-  command-same (Plan ahead kind) is = is
+  command-same (Plan ahead kind) is = (is.0, plan-same kind is.1)
   command-same (Step line) is = step-same line is
   command-same Settle is = is
   command-same Finish is = is
   command-same (Duo e) is = is
+  command-same (Pull at) is = end-same at is
+  command-same (Plug a b) is = (end-same a is.0, end-same b is.1)
+  command-same Revoke is = is
+  command-same Broken is = is
 
 -- a command of a text is one over the fabric as it stands
 pub command-named : (n : Network) (s : SessionState) (c : Command) → HasVerticesOf n s → IsCommandOf n c → IsCommandOf (fabric_of s.world) c

@@ -5,7 +5,7 @@ use Rattle.net_defs.specs.Network.{Network, IsFabric}
 use Rattle.net_defs.proofs.Distinct.{all-weaker}
 use Rattle.map_defs.specs.NetMap.{NetMap}
 use Rattle.link_defs.specs.Links.{is_idle}
-use Rattle.world_defs.specs.World.{WorldState, last_count}
+use Rattle.world_defs.specs.World.{WorldState, fabric_of, last_count}
 use Rattle.world_defs.specs.Settle.{unacknowledged_in}
 use Rattle.world_defs.specs.Logs.{settle}
 use Rattle.settle_laws.specs.Premises.{CanSettle}
@@ -23,7 +23,7 @@ use Rattle.fabric_file.specs.Reading.{fabric_reading, AreNamed}
 use Rattle.fabric_file.proofs.Readings.{reading-fabric, reading-named}
 use Rattle.fabric_file.proofs.Names.{all-nth}
 use Rattle.run_defs.specs.declared.command.Command.{Command}
-use Rattle.run_defs.specs.declared.command.Command.TheVariants.{Map, Install}
+use Rattle.run_defs.specs.declared.command.Command.TheVariants.{Map, Install, Plug}
 use Rattle.run_defs.specs.Script.{script_reading}
 use Rattle.run_defs.specs.Output.{Piece, OneLine}
 use Rattle.run_defs.specs.Session.{SessionState}
@@ -37,6 +37,9 @@ use Rattle.print_laws.proofs.Shown.{printed_maps_stand, complete_maps_are_one}
 use Rattle.print_laws.proofs.Marks.{marks_are_right}
 use Rattle.print_laws.proofs.Routes.{printed_routes_are_right}
 use Rattle.install_line_laws.proofs.Lines.{line-true}
+use Rattle.promise_laws.proofs.Pulls.{pull_line-true}
+use Rattle.promise_laws.proofs.Plugs.{plug_line-true}
+use Rattle.promise_laws.proofs.Revoking.{revoked_line-true}
 use Rattle.settle_line_laws.specs.Lines.{IsSettledLine}
 use Rattle.settle_line_laws.proofs.Lines.{run-can_settle, line-true as settled-true}
 use Rattle.mapping_laws.specs.Runs.{IsSessionOf}
@@ -59,6 +62,8 @@ use Rattle.promise_laws.proofs.ReceivedLines.{runs-receive_as_sent}
 use Rattle.promise_laws.proofs.Running.{each_command_is_done, run_exists}
 use Rattle.input_texts.specs.Reading.{AcceptedText, reading_from, reading}
 use Rattle.fabric_run.proofs.Duos.{duos_promised}
+use Rattle.fabric_run.proofs.Naming.{command-named}
+use Rattle.fabric_run.specs.Ends.{HasVerticesOf}
 use Rattle.fabric_run.specs.Promise.{IsPromised, IsPrintedMap, DeepMapsAreComplete, InstalledLinesAreTrue}
 
 -- An accepted text has a fabric, with names of the text's form, and its commands are over that fabric.
@@ -171,6 +176,10 @@ settle-got-all s next rounds resets unacked can line left enough paths =
     let all = settle-delivers w can low enough (subst (HasPaths w) after paths) in
     (line.left ∙ ap unacknowledged_in after ∙ all.0, subst IsAllGot (sym after) all.1)
 
+-- a session of a run has the hosts and switches of the fabric that it began with
+session-vertices : (n : Network) (s : SessionState) → IsSessionOf n s → HasVerticesOf n s
+session-vertices n s is = (ap (λ (x : Network). x.hosts) is.first, ap (λ (x : Network). x.switches) is.first)
+
 -- every accepted text has its report
 pub text-has_run : (text : List ℕ) (a : AcceptedText) → reading text ≡ Ok a → HasRun a.network a.commands
 text-has_run text a e =
@@ -234,6 +243,11 @@ text_promised text a e =
       delivered = λ k out rest s next rounds resets unacked r at does left enough paths.
           settle-got-all s next rounds resets unacked (run-can_settle n (take k cs) out s o.fabric (acts k) r).1
           (settled-true n (take k cs) out rest s next rounds resets unacked o.fabric (acts k) r does) left enough paths;
+      pulled = λ k out printed s next at r is does. pull_line-true s next at printed does;
+      plugged = λ k out printed s next p q r is does.
+          let ports : IsSaid (fabric_of s.world) (Plug p q) = command-named n s (Plug p q) (session-vertices n s (run_keeps_world n (take k cs) out s o.fabric (commands k) r)) (all-nth (IsSaid n) cs k (Plug p q) o.said is) in
+          plug_line-true s next p q printed ports.0 ports.1 does;
+      revoked = λ k out printed s next r is does. revoked_line-true n s next printed (run_is_reached n (take k cs) out s o.fabric (acts k) r) does;
       behind = λ k out last r. runs_end_sound n (take k cs) out last o.fabric (acts k) r;
       reached = λ k out last r. run_is_reached n (take k cs) out last o.fabric (acts k) r;
       acts = λ k out printed s next c r at does.

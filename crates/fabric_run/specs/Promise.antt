@@ -1,5 +1,6 @@
 -- What every accepted text promises, after each of its commands.
 use Rattle.std.specs.Prelude.{◌≡◌, ◌⊎◌, ◌↔◌, ℕ, ◌<◌, ◌≤◌, false, List, ◌∷◌, length, take, Some, Ok, slice_get}
+use Rattle.net_defs.specs.declared.vertex.End.{End}
 use Rattle.net_defs.specs.Network.{Network}
 use Rattle.journal_defs.specs.declared.entry.Entry.{Entry}
 use Rattle.journal_defs.specs.Depth.{enough_depth}
@@ -10,7 +11,7 @@ use Rattle.world_defs.specs.World.{WorldState, fabric_of, last_count}
 use Rattle.world_defs.specs.Sound.{IsSound, installed_channels}
 use Rattle.circ_defs.specs.Cores.{IsCutOff}
 use Rattle.run_defs.specs.declared.command.Command.{Command}
-use Rattle.run_defs.specs.declared.command.Command.TheVariants.{Map, Routes, Install, Settle}
+use Rattle.run_defs.specs.declared.command.Command.TheVariants.{Map, Routes, Install, Settle, Pull, Plug, Revoke}
 use Rattle.run_defs.specs.declared.line.Line.TheVariants.{Map as MapLine, Installed}
 use Rattle.run_defs.specs.declared.line.Line.TheVariants.{Settle as SettleLine}
 use Rattle.run_defs.specs.declared.line.MapWords.{MapWords}
@@ -29,6 +30,7 @@ use Rattle.print_laws.specs.Shown.{PrintsMap}
 use Rattle.print_laws.specs.Routes.{AreRoutesTold}
 use Rattle.install_line_laws.specs.Runs.{IsInstalledLine}
 use Rattle.settle_line_laws.specs.Lines.{IsSettledLine}
+use Rattle.promise_laws.specs.CableLines.{IsPullTold, IsPlugTold, IsRevokeTold}
 use Rattle.message_laws.specs.Filling.{HasTiedParts}
 use Rattle.message_laws.specs.Got.{IsAllGot}
 use Rattle.seen_laws.specs.Seen.{PolledIsFrontOfAccepted}
@@ -211,6 +213,28 @@ ReceivedLinesAreOfSends a = (count : ℕ) (out : List Piece) (last : SessionStat
     → IsRun a.network (take count a.commands) out last
     → AreReceivedAsSent a.network (take count a.commands) out last.world
 
+-- after the first commands of a text, where the next one is a `pull`, its line says whether the port had a cable, which
+-- is pulled then
+abbrev pub PullLinesAreTrue : AcceptedText → Type 0
+PullLinesAreTrue a =
+    (count : ℕ) (out printed : List Piece) (s next : SessionState) (at : End)
+    → IsRun a.network (take count a.commands) out s → slice_get a.commands count ≡ Some (Pull at)
+    → Does s (Pull at) printed next → IsPullTold s next at printed
+
+-- where it is a `plug`, its line says whether the ports are joined, and else why they aren't
+abbrev pub PlugLinesAreTrue : AcceptedText → Type 0
+PlugLinesAreTrue a =
+    (count : ℕ) (out printed : List Piece) (s next : SessionState) (p q : End)
+    → IsRun a.network (take count a.commands) out s → slice_get a.commands count ≡ Some (Plug p q)
+    → Does s (Plug p q) printed next → IsPlugTold s next p q printed
+
+-- and where it is `revoke`, its line counts all hosts where routes are adopted, and each has given up their epoch
+abbrev pub RevokeLinesAreTrue : AcceptedText → Type 0
+RevokeLinesAreTrue a =
+    (count : ℕ) (out printed : List Piece) (s next : SessionState)
+    → IsRun a.network (take count a.commands) out s → slice_get a.commands count ≡ Some Revoke
+    → Does s Revoke printed next → IsRevokeTold s next printed
+
 -- A map of circuit links was the circuit map to its depth of the fabric as it stood before its command, after so many
 -- asks, and where the depth was great enough the core; and its lines are read as that map.
 pub record IsCircuitRight (n : Network) (commands : List Command) (before : List Piece) (host depth asks : ℕ)
@@ -231,15 +255,15 @@ CircuitMapsAreTrue a =
 -- cause while injections are left; whatever vertex or cable a map shows was there; its maps of circuit links were true;
 -- printed routes led where they say, with ranks that rise. Each count of installed hosts has its cause, and no more are
 -- counted than have their table; and each settle ends settled while injections are left, with all got where there were
--- tokens enough and the routes are whole. Each command is acts that may happen, each of them one action of one host, of
--- one channel or of one cable. The world is sound after its first commands, and after each prefix of the acts of the
--- next one, where that is done and where it is cut short: the installed routes have no cycle, what was got is a prefix
--- of what was sent, for each sender, receiver and priority, and each token has one owner; and of a message that came in
--- part one provided buffer holds what came. What polls handed out is a prefix of what sends were accepted with; a sent
--- event that waits has the bytes of the message that was last sent with its token, and a send token that a poll
--- answers is of that message, which is acknowledged. So it is at every moment, whatever happens before it. And what the
--- lines `received` show is a prefix of what the `send` lines with a token handed in. The two hosts that restart keep
--- their own promise.
+-- tokens enough and the routes are whole. Lines of cables and epochs say what was pulled, plugged and given up. Each
+-- command is acts that may happen, each of them one action of one host, of one channel or of one cable. The world is
+-- sound after its first commands, and after each prefix of the acts of the next one, where that is done and where it is
+-- cut short: the installed routes have no cycle, what was got is a prefix of what was sent, for each sender, receiver
+-- and priority, and each token has one owner; and of a message that came in part one provided buffer holds what came.
+-- What polls handed out is a prefix of what sends were accepted with; a sent event that waits has the bytes of the
+-- message that was last sent with its token, and a send token that a poll answers is of that message, which is
+-- acknowledged. So it is at every moment, whatever happens before it. And what the lines `received` show is a prefix of
+-- what the `send` lines with a token handed in. The two hosts that restart keep their own promise.
 pub record IsPromised (a : AcceptedText) : Type 0 where
   pub report : HasRun a.network a.commands
   pub done : EachCommandIsDone a
@@ -256,6 +280,9 @@ pub record IsPromised (a : AcceptedText) : Type 0 where
   pub unharmed : UnharmedInstallationsCountAll a
   pub settled : SettledLinesAreTrue a
   pub delivered : SettlesDeliver a
+  pub pulled : PullLinesAreTrue a
+  pub plugged : PlugLinesAreTrue a
+  pub revoked : RevokeLinesAreTrue a
   pub behind : WorldsAreSound a
   pub reached : WorldsAreReached a
   pub acts : CommandsHaveSoundActs a

@@ -22,7 +22,7 @@ use Rattle.world_defs.proofs.LogViews.{installed}
 use Rattle.world_defs.specs.Logs as log
 use Rattle.world_defs.specs.Log.{Log, came_to}
 use Rattle.run_defs.specs.declared.command.Command.{Command}
-use Rattle.run_defs.specs.declared.command.Command.TheVariants.{Walk, Map, Circuit, Routes, Install, Begin as BeginCommand, Close as CloseCommand, Poll as PollCommand, Tokens, Provide as ProvideCommand, Send as SendCommand, Plan, Step, Settle, Finish, Duo}
+use Rattle.run_defs.specs.declared.command.Command.TheVariants.{Walk, Map, Circuit, Routes, Install, Begin as BeginCommand, Close as CloseCommand, Poll as PollCommand, Tokens, Provide as ProvideCommand, Send as SendCommand, Plan, Step, Settle, Finish, Duo, Pull, Plug, Revoke, Broken}
 use Rattle.run_defs.specs.declared.line.Line.TheVariants.{MapBusy, Installed, InstallRefused}
 use Rattle.run_defs.specs.declared.line.InstallCause.{InstallCause}
 use Rattle.run_defs.specs.declared.line.InstallCause.TheVariants.{NoRoutes, Busy}
@@ -115,6 +115,10 @@ outcome-last s (Plan ahead kind) = (refl, refl)
 outcome-last s Settle = (refl, refl)
 outcome-last s Finish = (refl, refl)
 outcome-last s (Duo e) = (refl, refl)
+outcome-last s (Pull at) = (refl, refl)
+outcome-last s (Plug a b) = (refl, refl)
+outcome-last s Revoke = (refl, refl)
+outcome-last s Broken = (refl, refl)
 
 -- A session that a run leads to.
 record IsLed (n : Network) (s : SessionState) : Type 0 where

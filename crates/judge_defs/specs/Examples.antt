@@ -1,15 +1,17 @@
--- A short report over the two hosts at one switch, worked out: a message is sent and received, its token comes back.
-use Rattle.std.specs.Prelude.{ℕ, List, [], ◌∷◌, ◌++◌, Result, Ok, codes}
-use Rattle.net_defs.specs.Examples.{two_hosts}
+-- Short reports over the two hosts at one switch, worked out: a message is sent and received, its token comes back; a
+-- cable is moved from one port to another.
+use Rattle.std.specs.Prelude.{ℕ, true, List, [], ◌∷◌, ◌++◌, Result, Ok, codes}
+use Rattle.net_defs.specs.Examples.{two_hosts, host_end, switch_end}
 use Rattle.fab_text.specs.Line.{TextLine, lines_left}
 use Rattle.fab_text.specs.Fault.{and_then}
 use Rattle.port_ledgers.specs.declared.lane.PortName.{PortName}
 use Rattle.run_defs.specs.declared.command.Command.{Command}
-use Rattle.run_defs.specs.declared.command.Command.TheVariants.{Begin, Send, Poll}
+use Rattle.run_defs.specs.declared.command.Command.TheVariants.{Begin, Send, Poll, Install, Pull, Plug, Broken}
 use Rattle.run_defs.specs.Examples.{text_of}
 use Rattle.line_forms.specs.declared.line.ReportLine.{ReportLine}
-use Rattle.line_forms.specs.declared.line.ReportLine.TheVariants.{Opened, Accepted, Received, Returned}
-use Rattle.answer_defs.specs.Answer.{Alone, Answered}
+use Rattle.line_forms.specs.declared.line.ReportLine.TheVariants.{Opened, Accepted, Received, Returned, NoBroken}
+use Rattle.line_forms.specs.declared.line.ReportLine.TheVariants.{Pull as PullLine, Plug as PlugLine}
+use Rattle.answer_defs.specs.Answer.{Alone, WithBroken, WithTables, Answered}
 use Rattle.judge_defs.specs.Form.{known_by, answer_from}
 use Rattle.answer_defs.specs.Answer.{answered}
 
@@ -69,3 +71,35 @@ answers =
     ∷ alone (Begin 1 1 0 1) (Opened receiver)
     ∷ alone (Begin 0 0 2 0) (Opened sender)
     ∷ []
+
+-- commands that move the cable of a host to another port of the switch
+abbrev pub moving : List Command
+moving = Pull (switch_end 0 5) ∷ Broken ∷ Plug (host_end 1) (switch_end 0 6) ∷ []
+
+-- their lines, where no routes are adopted
+abbrev pub moved_lines : List (List ℕ)
+moved_lines = codes "pull s 5 done" ∷ codes "broken refused noroutes" ∷ codes "plug b 0 s 6 done" ∷ []
+
+-- their answers, the latest first
+abbrev pub moved : List Answered
+moved =
+    alone (Plug (host_end 1) (switch_end 0 6)) (PlugLine (host_end 1) (switch_end 0 6) true)
+    ∷ alone Broken NoBroken
+    ∷ alone (Pull (switch_end 0 5)) (PullLine (switch_end 0 5) true)
+    ∷ []
+
+-- an installation before, so that routes are adopted
+abbrev pub adopted : List Answered
+adopted = answered (Install 1) (WithTables (0 ∷ 1 ∷ [])) ∷ []
+
+-- the lines of broken routes
+abbrev pub broken_text : List (List ℕ)
+broken_text = codes "broken a b" ∷ codes "broken b a" ∷ codes "endbroken" ∷ []
+
+-- the second of them stands first
+abbrev pub falling_text : List (List ℕ)
+falling_text = codes "broken b a" ∷ codes "broken a b" ∷ codes "endbroken" ∷ []
+
+-- the answer
+abbrev pub broken_answers : List Answered
+broken_answers = answered Broken (WithBroken ((0, 1) ∷ (1, 0) ∷ [])) ∷ adopted

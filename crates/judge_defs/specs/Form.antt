@@ -1,8 +1,8 @@
 -- The form of a command's answer: which line may be its first, and which lines follow that one.
-use Rattle.std.specs.Prelude.{ℕ, zero, suc, ℤ, Bool, true, false, ◌&&◌, List, [], ◌∷◌, length, nat_eq, nat_lt}
-use Rattle.std.specs.Prelude.{if◌then◌else◌, Option, Some, None, option_map, option_and_then, Result, Ok, Err}
+use Rattle.std.specs.Prelude.{ℕ, zero, suc, ℤ, Bool, true, false, ◌&&◌, ◌||◌, List, [], ◌∷◌, length, nat_eq, nat_lt}
+use Rattle.std.specs.Prelude.{if◌then◌else◌, Option, Some, None, option_map, option_and_then, Result, Ok, Err, codes}
 use Rattle.net_defs.specs.declared.route.Route.{Route}
-use Rattle.net_defs.specs.Network.{Network}
+use Rattle.net_defs.specs.Network.{Network, same_end}
 use Rattle.port_graph.specs.Routes.{is_above}
 use Rattle.fab_text.specs.Line.{TextLine, words_of}
 use Rattle.fab_text.specs.Fault.{FirstFault, and_then}
@@ -15,6 +15,7 @@ use Rattle.port_ledgers.specs.declared.lane.PortName.{PortName}
 use Rattle.run_defs.specs.declared.command.Command.{Command}
 use Rattle.run_defs.specs.declared.command.Command.TheVariants.{Walk, Map, Circuit, Routes, Install, Begin, Close}
 use Rattle.run_defs.specs.declared.command.Command.TheVariants.{Poll, Tokens, Provide, Send, Plan, Step, Settle, Finish}
+use Rattle.run_defs.specs.declared.command.Command.TheVariants.{Pull, Plug, Revoke, Broken}
 use Rattle.run_defs.specs.declared.line.ClientCall.{ClientCall}
 use Rattle.run_defs.specs.declared.line.ClientCall.TheVariants.{Begin as BeginCall, Close as CloseCall}
 use Rattle.run_defs.specs.declared.line.ClientCall.TheVariants.{Provide as ProvideCall, Send as SendCall}
@@ -29,10 +30,14 @@ use Rattle.line_forms.specs.declared.line.ReportLine.TheVariants.{Opened, Closed
 use Rattle.line_forms.specs.declared.line.ReportLine.TheVariants.{Received, NothingCame, CallRefused}
 use Rattle.line_forms.specs.declared.line.ReportLine.TheVariants.{Tokens as TokensLine, PlanAt, Step as StepLine}
 use Rattle.line_forms.specs.declared.line.ReportLine.TheVariants.{Settle as SettleLine, Finish as FinishLine}
+use Rattle.line_forms.specs.declared.line.ReportLine.TheVariants.{Pull as PullLine, Plug as PlugLine, Revoked}
+use Rattle.line_forms.specs.declared.line.ReportLine.TheVariants.{Broken as BrokenLine, EndBroken, NoBroken}
+use Rattle.line_forms.specs.Words.{host_said}
 use Rattle.report_lines.specs.Lines.{line_said}
 use Rattle.map_canon.specs.Declaring.{vertex_of_switch}
 use Rattle.map_canon.specs.Reading.{MapPart, map_part}
-use Rattle.answer_defs.specs.Answer.{Answer, Alone, WithMap, WithRoutes, WithTables, Answered, shown_map, routed_hosts}
+use Rattle.answer_defs.specs.Answer.{Answer, Alone, WithMap, WithRoutes, WithTables, WithBroken, Answered, shown_map}
+use Rattle.answer_defs.specs.Answer.{routed_hosts, are_adopted}
 
 -- the port of a host
 abbrev pub is_port_of : ℕ → ℕ → PortName → Bool
@@ -92,6 +97,12 @@ may_answer (Plan ahead kind) PlanAt = true
 may_answer (Step line) StepLine = true
 may_answer Settle SettleLine = true
 may_answer Finish FinishLine = true
+may_answer (Pull at) (PullLine e done) = same_end e at
+may_answer (Plug a b) (PlugLine d e done) = same_end d a && same_end e b
+may_answer Revoke Revoked = true
+may_answer Broken (BrokenLine from to) = true
+may_answer Broken EndBroken = true
+may_answer Broken NoBroken = true
 may_answer c l = same_call (call_of c) (call_in l)
 
 -- What is read of lines, with the lines that are left, or the number of the line that is out of form.
@@ -210,14 +221,68 @@ abbrev pub map_block : ReportLine → Result MapPart FirstFault → Reads Answer
 map_block l (Ok part) = Ok (WithMap l part.made, part.after)
 map_block l (Err fault) = Err fault.line
 
--- What an answer's form depends on: the last map that has lines, and the hosts of the last routes.
+-- the hosts that a line `broken` names, which may be called `refused` and `noroutes`
+abbrev pub pair_in : Network → ReportLine → Option (ℕ × ℕ)
+pair_in n (BrokenLine from to) = Some (from, to)
+pair_in n NoBroken = option_and_then (λ a. option_map (λ b. (a, b)) (host_said n (codes "noroutes")))
+    (host_said n (codes "refused"))
+pair_in n l = None
+
+-- a pair is above the one before it: by its sender, and then by its receiver
+abbrev pub is_pair_above : Option (ℕ × ℕ) → ℕ × ℕ → Bool
+is_pair_above None p = true
+is_pair_above (Some q) p = nat_lt q.0 p.0 || (nat_eq q.0 p.0 && nat_lt q.1 p.1)
+
+-- a pair where it may stand
+abbrev pub pair_where : Option (ℕ × ℕ) → Option (ℕ × ℕ) → Option (ℕ × ℕ)
+pair_where before None = None
+pair_where before (Some p) = if is_pair_above before p then Some p else None
+
+-- the line `endbroken`
+abbrev pub is_end_of_broken : Option ReportLine → Bool
+is_end_of_broken (Some EndBroken) = true
+is_end_of_broken l = false
+
+-- a pair with those after it
+abbrev pub pairs_from : ℕ → Option (ℕ × ℕ) → (ℕ × ℕ → Reads (List (ℕ × ℕ))) → Reads (List (ℕ × ℕ))
+pairs_from number None more = Err number
+pairs_from number (Some p) more = and_then (more p) (λ ps. Ok (p ∷ ps.0, ps.1))
+
+-- the pair of a line, where it may stand after the one before it
+abbrev pub pair_due : Network → Option (ℕ × ℕ) → Option ReportLine → Option (ℕ × ℕ)
+pair_due n before l = pair_where before (option_and_then (pair_in n) l)
+
+-- lines of broken routes up to `endbroken`, which rise
+abbrev pub broken_lines : Option (ℕ × ℕ) → ℕ → Network → List TextLine → Reads (List (ℕ × ℕ))
+broken_lines before past n [] = Err past
+broken_lines before past n (l ∷ ls) =
+    if is_end_of_broken (line_said n (words_of l.bytes)) then Ok ([], ls)
+    else pairs_from l.number (pair_due n before (line_said n (words_of l.bytes)))
+    (λ p. broken_lines (Some p) past n ls)
+
+-- a broken route, and those after it up to `endbroken`
+abbrev pub broken_block : ℕ × ℕ → ℕ → Network → List TextLine → Reads Answer
+broken_block p past n ls = and_then (broken_lines (Some p) past n ls) (λ ps. Ok (WithBroken (p ∷ ps.0), ps.1))
+
+-- `broken refused noroutes`: a refusal, or, where routes are adopted and two hosts have these names, a broken route
+abbrev pub refused_block : Bool → Option (ℕ × ℕ) → ℕ → Network → List TextLine → Reads Answer
+refused_block true (Some p) past n ls = broken_block p past n ls
+refused_block adopted p past n ls = Ok (Alone NoBroken, ls)
+
+-- What an answer's form depends on: the last map that has lines, the hosts of the last routes, and whether routes are
+-- adopted.
 pub record Known : Type 0 where
   pub shown : Option NetMap
   pub routed : Option (List ℕ)
+  pub adopted : Bool
 
 -- what is known by the answers before
 abbrev pub known_by : Network → List Answered → Known
-known_by n before = record { shown = shown_map before; routed = routed_hosts n before }
+known_by n before = record {
+  shown = shown_map before;
+  routed = routed_hosts n before;
+  adopted = are_adopted before;
+}
 
 -- the lines that follow an answer's first line, which has this number
 abbrev pub block_of : ℕ → ReportLine → Known → ℕ → Network → List TextLine → Reads Answer
@@ -226,6 +291,9 @@ block_of number (MapLine h said) k past n ls = map_block (MapLine h said) (map_p
 block_of number (CircuitLine h depth) k past n ls = map_block (CircuitLine h depth) (map_part past n ls)
 block_of number (RoutesLine count) k past n ls = routes_block count k.shown past n ls
 block_of number (Installed count) k past n ls = tables_block (tables_of number count k.routed past n ls)
+block_of number (BrokenLine from to) k past n ls = broken_block (from, to) past n ls
+block_of number EndBroken k past n ls = Ok (WithBroken [], ls)
+block_of number NoBroken k past n ls = refused_block k.adopted (pair_in n NoBroken) past n ls
 block_of number l k past n ls = Ok (Alone l, ls)
 
 -- an answer by its first line, which has this number

@@ -1,8 +1,9 @@
 -- What the lines of maps, routes, ranks and installations say by their words, and lines of which only the form is
 -- judged.
-use Rattle.std.specs.Prelude.{ℕ, ℤ, Bool, false, ◌&&◌, ◌||◌, List, [], ◌∷◌, ◌++◌, length, take, nat_le, codes, bytes_eq}
+use Rattle.std.specs.Prelude.{ℕ, ℤ, Bool, true, false, ◌&&◌, ◌||◌, List, [], ◌∷◌, ◌++◌, length, take, nat_le, codes, bytes_eq}
 use Rattle.std.specs.Prelude.{if◌then◌else◌, Option, Some, None, option_map, option_and_then, is_some}
 use Rattle.std.specs.Option.{option_map_or}
+use Rattle.net_defs.specs.declared.vertex.End.{End}
 use Rattle.net_defs.specs.declared.walk.WalkFault.{WalkFault}
 use Rattle.net_defs.specs.Network.{Network}
 use Rattle.net_defs.specs.Turn.{walk_refusal}
@@ -15,7 +16,9 @@ use Rattle.line_forms.specs.declared.line.ReportLine.{ReportLine}
 use Rattle.line_forms.specs.declared.line.ReportLine.TheVariants.{Walk, Map, MapBusy, Circuit, CircuitNodes, Routes}
 use Rattle.line_forms.specs.declared.line.ReportLine.TheVariants.{NoMap, Route, Rank, EndRoutes, Installed, Table}
 use Rattle.line_forms.specs.declared.line.ReportLine.TheVariants.{InstallRefused, PlanAt, Step, Settle, Finish}
-use Rattle.line_forms.specs.Words.{value_said, turn_said, host_said, is_end_said, vertex_said, three_of}
+use Rattle.line_forms.specs.declared.line.ReportLine.TheVariants.{Pull, Plug, Revoked, Broken, EndBroken}
+use Rattle.line_forms.specs.declared.line.ReportLine.TheVariants.{NoBroken}
+use Rattle.line_forms.specs.Words.{value_said, turn_said, host_said, end_said, is_end_said, vertex_said, three_of}
 use Rattle.line_forms.specs.Words.{is_empty, is_count}
 
 -- a line of which only the form is judged, where it has that form
@@ -264,7 +267,80 @@ abbrev pub is_finish : List (List ℕ) → Bool
 is_finish ws = option_map_or (λ w. bytes_eq w.0.0 (codes "injected") && number_test w.0.1
     && bytes_eq w.1.0 (codes "dropped") && number_test w.1.1) (four_of ws) false
 
--- a line of which only the form is judged, by its first word
+-- whether it was done, where its form is right
+abbrev pub done_where : Bool → Bool → Option Bool
+done_where done is = if is then Some done else None
+
+-- `done` or `refused nocable`
+abbrev pub pull_answer : List (List ℕ) → Option Bool
+pull_answer [] = None
+pull_answer (w ∷ ws) =
+    if bytes_eq w (codes "done") then done_where true (is_empty ws)
+    else if bytes_eq w (codes "refused") then done_where false (is_only (codes "nocable") ws)
+    else None
+
+-- a pull, where its end and its answer were read
+abbrev pub pull_at : Option End → Option Bool → Option ReportLine
+pull_at (Some at) (Some done) = Some (Pull at done)
+pull_at _ _ = None
+
+-- `V P done` or `V P refused nocable`
+abbrev pub pull_said : Network → List (List ℕ) → Option ReportLine
+pull_said n (v ∷ p ∷ ws) = pull_at (end_said n v p) (pull_answer ws)
+pull_said n _ = None
+
+-- why two ports aren't joined
+abbrev pub is_plug_cause : List ℕ → Bool
+is_plug_cause w = bytes_eq w (codes "portused") || bytes_eq w (codes "full")
+
+-- `CAUSE`
+abbrev pub is_plug_refusal : List (List ℕ) → Bool
+is_plug_refusal ws = option_map_or is_plug_cause (one_of ws) false
+
+-- `done` or `refused CAUSE`
+abbrev pub plug_answer : List (List ℕ) → Option Bool
+plug_answer [] = None
+plug_answer (w ∷ ws) =
+    if bytes_eq w (codes "done") then done_where true (is_empty ws)
+    else if bytes_eq w (codes "refused") then done_where false (is_plug_refusal ws)
+    else None
+
+-- a plug, where its ends and its answer were read
+abbrev pub plug_at : Option End → Option End → Option Bool → Option ReportLine
+plug_at (Some a) (Some b) (Some done) = Some (Plug a b done)
+plug_at _ _ _ = None
+
+-- `V P W Q done` or `V P W Q refused CAUSE`
+abbrev pub plug_said : Network → List (List ℕ) → Option ReportLine
+plug_said n (v ∷ p ∷ w ∷ q ∷ ws) = plug_at (end_said n v p) (end_said n w q) (plug_answer ws)
+plug_said n _ = None
+
+-- the sender and the receiver of a broken route, where both were read
+abbrev pub broken_at : Option ℕ → Option ℕ → Option ReportLine
+broken_at (Some from) (Some to) = Some (Broken from to)
+broken_at _ _ = None
+
+-- `A B` or `refused noroutes` by the two words; two hosts may have these names
+abbrev pub broken_of : Network → List ℕ → List ℕ → Option ReportLine
+broken_of n a b =
+    if bytes_eq a (codes "refused") && bytes_eq b (codes "noroutes") then Some NoBroken
+    else broken_at (host_said n a) (host_said n b)
+
+-- `A B` or `refused noroutes`
+abbrev pub broken_said : Network → List (List ℕ) → Option ReportLine
+broken_said n ws = option_and_then (λ w. broken_of n w.0 w.1) (two_of ws)
+
+-- a line of cables, by its first word
+abbrev pub cable_said : Network → List ℕ → List (List ℕ) → Option ReportLine
+cable_said n first ws =
+    if bytes_eq first (codes "pull") then pull_said n ws
+    else if bytes_eq first (codes "plug") then plug_said n ws
+    else if bytes_eq first (codes "revoked") then where_so Revoked (is_count ws)
+    else if bytes_eq first (codes "broken") then broken_said n ws
+    else if bytes_eq first (codes "endbroken") then where_so EndBroken (is_empty ws)
+    else None
+
+-- a line of which only the form is judged, or a line of cables, by its first word
 abbrev pub form_said : Network → List ℕ → List (List ℕ) → Option ReportLine
 form_said n first ws =
     if bytes_eq first (codes "walk") then where_so Walk (is_place n ws)
@@ -274,7 +350,7 @@ form_said n first ws =
     else if bytes_eq first (codes "step") then where_so Step (is_effect n ws)
     else if bytes_eq first (codes "settle") then where_so Settle (is_settle ws)
     else if bytes_eq first (codes "end") then where_so Finish (is_finish ws)
-    else None
+    else cable_said n first ws
 
 -- a line that no call names, by its first word
 abbrev pub other_said : Network → List ℕ → List (List ℕ) → Option ReportLine

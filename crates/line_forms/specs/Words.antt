@@ -1,9 +1,10 @@
 -- What single words of a report say: hosts and ends of the fabric, numbers, turns, and vertices of a map.
 use Rattle.std.specs.Prelude.{ℕ, ◌-◌, ◌^◌, ℤ, Bool, true, false, List, [], ◌∷◌, nat_eq, nat_lt, if◌then◌else◌}
-use Rattle.std.specs.Prelude.{Option, Some, None, option_map, Result, Ok, Err}
+use Rattle.std.specs.Prelude.{Option, Some, None, option_map, is_some, Result, Ok, Err}
 use Rattle.std.specs.Option.{option_map_or}
 use Rattle.net_defs.specs.declared.vertex.Vertex.{Vertex}
 use Rattle.net_defs.specs.declared.vertex.Vertex.TheVariants.{Host, Switch}
+use Rattle.net_defs.specs.declared.vertex.End.{End}
 use Rattle.net_defs.specs.Network.{Network, ports_of}
 use Rattle.net_defs.specs.Building.{vertex_named}
 use Rattle.map_defs.specs.declared.vertex.MapVertex.{MapVertex}
@@ -39,15 +40,19 @@ address_in (Some (Switch s)) = None
 abbrev pub host_said : Network → List ℕ → Option ℕ
 host_said n w = address_in (vertex_named n w)
 
--- the fabric has this port of a vertex
-abbrev pub has_end : Network → Option Vertex → Option ℕ → Bool
-has_end n None p = false
-has_end n (Some v) None = false
-has_end n (Some v) (Some p) = nat_lt p (ports_of n v)
+-- this port of a vertex, where the fabric has it
+abbrev pub end_in : Network → Option Vertex → Option ℕ → Option End
+end_in n None p = None
+end_in n (Some v) None = None
+end_in n (Some v) (Some p) = if nat_lt p (ports_of n v) then Some (record { v = v; p = p }) else None
 
 -- `V P`: an end of the fabric
+abbrev pub end_said : Network → List ℕ → List ℕ → Option End
+end_said n v p = end_in n (vertex_named n v) (value_said p)
+
+-- two words are an end of the fabric
 abbrev pub is_end_said : Network → List ℕ → List ℕ → Bool
-is_end_said n v p = has_end n (vertex_named n v) (value_said p)
+is_end_said n v p = is_some (end_said n v p)
 
 -- a vertex of a map, by its first byte: `#K` is a switch, and another word a host of the fabric
 abbrev pub vertex_said : Network → List ℕ → Option MapVertex

@@ -8,6 +8,7 @@ ghost use Rattle.line_forms.specs.Forms.{is_end_left, is_arrival, is_drop, is_ef
 ghost use Rattle.line_forms.specs.Forms.{are_settle_counts, is_settle, is_finish, form_said};
 ghost use Rattle.line_forms.specs.Forms.{is_install_cause};
 
+use crate::cables::by_cable;
 use crate::line::ReportLine;
 use crate::maps::where_so;
 use crate::word::{host, is_count, is_empty, is_end, is_number, three};
@@ -33,7 +34,7 @@ pub(crate) fn by_form(fabric: &Fabric, first: &[u8], args: Words) -> Option<Repo
     } else if first == b"end".as_slice() {
         where_so(ReportLine::Finish, is_finish(args))
     } else {
-        None
+        by_cable(fabric, first, args)
     }
 }
 

@@ -16,11 +16,13 @@
 //! | `word` | single words: hosts, ends, numbers, vertices of a map |
 //! | `maps` | lines of maps, circuits, ranks and installations |
 //! | `route_line` | the line of a route |
+//! | `cables` | lines of cables, and of routes that they break |
 //! | `forms` | lines of which only the form is judged |
 //! | `by_word` | a line of one of these kinds by its first word |
 #![tactic(auto)]
 
 mod by_word;
+mod cables;
 mod forms;
 mod line;
 mod maps;

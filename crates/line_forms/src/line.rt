@@ -4,7 +4,7 @@ ghost use Rattle.std.specs.Prelude.{◌≡◌};
 
 use gm_defs::Blob;
 use map_defs::MapVertex;
-use port_graph::Route;
+use port_graph::{End, Route};
 use port_ledgers::{PortName, ToldPlace};
 use run_defs::ClientCall;
 use std::marker::Model;
@@ -181,4 +181,33 @@ pub enum ReportLine {
     Settle,
     /// `end injected N dropped M`
     Finish,
+    /// `pull V P done`, or `pull V P refused nocable`.
+    Pull {
+        /// The port.
+        at: End,
+        /// Whether its cable was pulled.
+        done: bool,
+    },
+    /// `plug V P W Q done`, or `plug V P W Q refused CAUSE`.
+    Plug {
+        /// The one port.
+        a: End,
+        /// The other.
+        b: End,
+        /// Whether they were joined.
+        done: bool,
+    },
+    /// `revoked N`
+    Revoked,
+    /// `broken A B`; further ones may follow, and `endbroken` does.
+    Broken {
+        /// The address of the sender.
+        from: u16,
+        /// The address of the receiver.
+        to: u16,
+    },
+    /// `endbroken`
+    EndBroken,
+    /// `broken refused noroutes`, also where two hosts have these names.
+    NoBroken,
 }

@@ -6,12 +6,12 @@ ghost use Rattle.std.specs.Str.Parse.{digits_value};
 ghost use Rattle.net_defs.specs.Building.{vertex_named};
 ghost use Rattle.fab_text.specs.Line.{words_of};
 ghost use Rattle.fab_text.specs.Word.{is_digit, number_test};
-ghost use Rattle.line_forms.specs.Words.{number_said, value_said, turn_said, host_said, has_end, is_end_said};
+ghost use Rattle.line_forms.specs.Words.{number_said, value_said, turn_said, host_said, end_said, is_end_said};
 ghost use Rattle.line_forms.specs.Words.{vertex_said, three_of, is_empty, is_count};
 
 use fab_text::{Words, read_turn};
 use map_defs::MapVertex;
-use port_graph::{Fabric, Vertex};
+use port_graph::{End, Fabric, Vertex};
 
 /// Whether a word is one or more digits: a number of any size.
 #[tactic(auto, using(crate::proofs::Numbers::number_long))]
@@ -97,12 +97,16 @@ pub fn host(fabric: &Fabric, name: &[u8]) -> Option<u16>
 pub(crate) fn is_end(fabric: &Fabric, v: &[u8], p: &[u8]) -> bool
     ensures { result ≡ is_end_said fabric.now v.now p.now }
 {
-    match fabric.find(v) {
-        Some(v) => match value(p) {
-            Some(p) => p < u64::from(fabric.ports(v)),
-            None => false,
-        },
-        None => false,
+    end(fabric, v, p).is_some()
+}
+
+/// `V P`: an end of the fabric.
+pub(crate) fn end(fabric: &Fabric, v: &[u8], p: &[u8]) -> Option<End>
+    ensures { result ≡ end_said fabric.now v.now p.now }
+{
+    match (fabric.find(v), value(p)) {
+        (Some(v), Some(p)) if p < u64::from(fabric.ports(v)) => Some(End { v, p: p as u8 }),
+        _ => None,
     }
 }
 

@@ -15,15 +15,15 @@ use Rattle.map_defs.proofs.Places.{places_are_an_order}
 use Rattle.map_laws.specs.RouteSets.{AreRightRoutes}
 use Rattle.map_laws.proofs.RightRoutes.{routes_of_a_right_map_are_right}
 use Rattle.world_defs.specs.declared.event.Event.{Event}
-use Rattle.world_defs.specs.declared.event.Event.TheVariants.{Begin, Close, Provide, Send, Poll}
+use Rattle.world_defs.specs.declared.event.Event.TheVariants.{Begin, Close, Provide, Send, Poll, Pull, Plug}
 use Rattle.world_defs.specs.declared.effect.Effect.{Effect}
 use Rattle.world_defs.specs.Table.{Adoption}
 use Rattle.world_defs.specs.World.{WorldState, fabric_of, adopted_by, may_adopt}
-use Rattle.world_defs.specs.Step.{step}
+use Rattle.world_defs.specs.Step.{step, steps}
 use Rattle.world_defs.specs.Logs as log
 use Rattle.world_defs.specs.Log.{Log}
 use Rattle.run_defs.specs.declared.command.Command.{Command}
-use Rattle.run_defs.specs.declared.command.Command.TheVariants.{Walk, Map, Circuit, Routes, Install, Begin as BeginCommand, Close as CloseCommand, Poll as PollCommand, Tokens, Provide as ProvideCommand, Send as SendCommand, Plan, Step, Settle, Finish, Duo}
+use Rattle.run_defs.specs.declared.command.Command.TheVariants.{Walk, Map, Circuit, Routes, Install, Begin as BeginCommand, Close as CloseCommand, Poll as PollCommand, Tokens, Provide as ProvideCommand, Send as SendCommand, Plan, Step, Settle, Finish, Duo, Pull as PullCommand, Plug as PlugCommand, Revoke as RevokeCommand, Broken}
 use Rattle.run_defs.specs.declared.line.Line.TheVariants.{MapBusy, InstallRefused}
 use Rattle.run_defs.specs.declared.line.InstallCause.TheVariants.{Busy}
 use Rattle.run_defs.specs.declared.line.MapWords.{MapWords}
@@ -31,7 +31,7 @@ use Rattle.run_defs.specs.declared.line.MapWords.TheVariants.{Complete, Doubtful
 use Rattle.run_defs.specs.Mapped.{IsMapped}
 use Rattle.run_defs.specs.Output.{Piece}
 use Rattle.run_defs.specs.Session.{SessionState, LastMap, LastRoutes, new_session, is_complete, complete_map}
-use Rattle.run_defs.specs.Outcome.{Outcome, says_only, event_of, stepped, step_or_idle, install_done, install_now, install, map_refused, routes_refused, outcome, set_of, may_install, refusal_cause}
+use Rattle.run_defs.specs.Outcome.{Outcome, says_only, event_of, stepped, step_or_idle, install_done, install_now, install, map_refused, routes_refused, outcome, set_of, may_install, refusal_cause, revocations}
 use Rattle.run_defs.specs.Run.{Does, Runs}
 use Rattle.run_defs.specs.Run.Does.{determined, maps, circuits, routes}
 use Rattle.run_defs.specs.Run.Runs.{ended, goes_on}
@@ -39,8 +39,8 @@ use Rattle.run_defs.specs.Headline.{IsCommandOf}
 use Rattle.mapping_laws.specs.Runs.{IsSessionOf}
 use Rattle.mapping_laws.specs.Held.{IsRightMap, WasRightMap, WereRightRoutes, HoldsRight, RunHoldsRight}
 use Rattle.mapping_laws.proofs.Made.{mapping_keeps, made_map_is_map, made_map_is_right, made_map_is_connected}
-use Rattle.install_laws.proofs.Worlds.{event-set, settle-set, installed-set}
-use Rattle.mapping_laws.proofs.Sessions.{can-map-now, mapped-stays, does-keep, does-stays, new-session}
+use Rattle.install_laws.proofs.Worlds.{SameSet, event-set, settle-set, installed-set}
+use Rattle.mapping_laws.proofs.Sessions.{revoked-of, can-map-now, mapped-stays, does-keep, does-stays, new-session}
 
 -- where routes may be installed, no change came since their map began
 pub can-install : (w : WorldState) (l : LastRoutes) → not (may_install w l) ≡ false → (l.began ≡ w.links.cables.changes) × (may_adopt w l.routes ≡ true)
@@ -100,6 +100,9 @@ busy-held s host = by (is_idle s.world.links)
     by true = tt
     by false = held-world s s.world refl
 
+revoked-set : (w : WorldState) → SameSet w (steps w (revocations w)).1
+revoked-set w = revoked-of SameSet (record { same = λ v. refl; both = λ t u v f g. g ∙ f; event = λ v e q. event-set v e }) w
+
 outcome-held : (s : SessionState) (c : Command) → HeldIn s (outcome s c)
 outcome-held s (Walk host walk) = held-world s s.world refl
 outcome-held s (Map host depth tries) = busy-held s host
@@ -118,6 +121,10 @@ outcome-held s (Step line) = step-held s (event_of s.world line)
 outcome-held s Settle = held-world s (log.settle s.world).world (settle-set s.world)
 outcome-held s Finish = held-world s s.world refl
 outcome-held s (Duo e) = record { last_map = refl; last_routes = refl; adopted = inl refl }
+outcome-held s (PullCommand at) = held-world s (step s.world (Pull at)).1 (event-set s.world (Pull at))
+outcome-held s (PlugCommand a b) = held-world s (step s.world (Plug a b)).1 (event-set s.world (Plug a b))
+outcome-held s RevokeCommand = held-world s (steps s.world (revocations s.world)).1 (revoked-set s.world)
+outcome-held s Broken = held-world s s.world refl
 
 -- what was right stays so
 map-past : (w v : WorldState) (l : LastMap) → CablesKept w v → WasRightMap w.links.cables l → WasRightMap v.links.cables l

@@ -16,14 +16,15 @@ use Rattle.world_defs.specs.declared.event.Event.{Event}
 use Rattle.world_defs.specs.declared.effect.Effect.{Effect}
 use Rattle.world_defs.specs.Node.{port_at}
 use Rattle.cable_history.proofs.Now.{now_is_fabric}
+use Rattle.world_defs.specs.Table.{Adoption}
 use Rattle.world_defs.specs.World.{WorldState, fabric_of, node_at, adopted_by}
 use Rattle.world_defs.specs.Step.{step}
 use Rattle.world_defs.specs.Logs as log
 use Rattle.world_defs.specs.Log.{Log}
 use Rattle.run_defs.specs.declared.command.Command.{Command}
-use Rattle.run_defs.specs.declared.command.Command.TheVariants.{Walk, Map, Circuit, Routes, Install, Begin as BeginCommand, Close as CloseCommand, Poll as PollCommand, Tokens, Provide as ProvideCommand, Send as SendCommand, Plan, Step, Settle, Finish, Duo}
+use Rattle.run_defs.specs.declared.command.Command.TheVariants.{Walk, Map, Circuit, Routes, Install, Begin as BeginCommand, Close as CloseCommand, Poll as PollCommand, Tokens, Provide as ProvideCommand, Send as SendCommand, Plan, Step, Settle, Finish, Duo, Pull, Plug, Revoke, Broken}
 use Rattle.run_defs.specs.declared.line.Line.{Line}
-use Rattle.run_defs.specs.declared.line.Line.TheVariants.{Map as MapLine, MapBusy, Circuit as CircuitLine, EndRoutes, InstallRefused}
+use Rattle.run_defs.specs.declared.line.Line.TheVariants.{Map as MapLine, MapBusy, Circuit as CircuitLine, EndRoutes, InstallRefused, Broken as BrokenLine, EndBroken}
 use Rattle.run_defs.specs.declared.line.InstallCause.TheVariants.{Busy}
 use Rattle.run_defs.specs.declared.line.MapWords.{MapWords}
 use Rattle.run_defs.specs.declared.line.MapWords.TheVariants.{Complete, Doubtful, IncompleteDepth, IncompleteNodes}
@@ -32,7 +33,7 @@ use Rattle.run_defs.specs.Circuit.{IsCircuitTold}
 use Rattle.run_defs.specs.Circuit.IsCircuitTold.{whole, too_many_nodes}
 use Rattle.run_defs.specs.Output.{Piece, OneLine, MapLines, lines}
 use Rattle.run_defs.specs.Session.{SessionState, LastMap, LastRoutes, new_session, complete_map}
-use Rattle.run_defs.specs.Outcome.{Outcome, says_only, event_of, stepped, step_or_idle, token_lines, table_line, install_done, install_now, install, map_refused, routes_refused, outcome, set_of, may_install, refusal_cause}
+use Rattle.run_defs.specs.Outcome.{Outcome, says_only, event_of, stepped, step_or_idle, token_lines, table_line, install_done, install_now, install, map_refused, routes_refused, outcome, set_of, may_install, refusal_cause, broken_routes, broken_lines}
 use Rattle.run_defs.specs.Run.{Does, Runs, map_pieces, route_line, rank_line, routes_lines}
 use Rattle.run_defs.specs.Run.Does.{determined, maps, circuits, routes}
 use Rattle.run_defs.specs.Run.Runs.{ended, goes_on}
@@ -127,6 +128,12 @@ busy-other s host = by (is_idle s.world.links)
     by true = tt
     by false = (refl, tt)
 
+broken-other : (w : WorldState) (o : Option Adoption) → AllByRecursion IsOtherPiece (lines (broken_lines w o))
+broken-other w None = (refl, tt)
+broken-other w (Some a) =
+    let told : List Line = map (λ (r : Route). BrokenLine r.from r.to) (broken_routes w a) in
+    lines-other (told ++ EndBroken ∷ []) (all-join IsOther told (EndBroken ∷ []) (each-other (λ (r : Route). BrokenLine r.from r.to) (broken_routes w a) (λ r. refl)) (refl, tt))
+
 outcome-other : (s : SessionState) (c : Command) → OthersIn (outcome s c)
 outcome-other s (Walk host walk) = (refl, tt)
 outcome-other s (Map host depth tries) = busy-other s host
@@ -144,6 +151,10 @@ outcome-other s (Step line) = step-other s (event_of s.world line)
 outcome-other s Settle = (refl, tt)
 outcome-other s Finish = (refl, tt)
 outcome-other s (Duo e) = (refl, tt)
+outcome-other s (Pull at) = (refl, tt)
+outcome-other s (Plug a b) = (refl, tt)
+outcome-other s Revoke = (refl, tt)
+outcome-other s Broken = broken-other s.world s.world.adopted
 
 map-prints : (n : Network) (host depth tries asks packets : ℕ) (m : NetMap) (words : MapWords) → (words ≡ Complete → IsMapOfPart n host m) → Prints n (Map host depth tries) (OneLine (MapLine host words asks packets) ∷ map_pieces words m)
 map-prints n host depth tries asks packets m Complete is = headed (MapLine host Complete asks packets) (OfPart host) m refl (depth, tries, refl) (is refl) refl

@@ -6,21 +6,25 @@ use Rattle.act_defs.proofs.Cables.{new-cables}
 use Rattle.journal_defs.specs.declared.entry.Entry.{Entry}
 use Rattle.link_defs.specs.Links.{is_idle}
 use Rattle.world_defs.specs.declared.event.Event.{Event}
-use Rattle.world_defs.specs.declared.event.Event.TheVariants.{Begin, Close, Provide, Send, Poll}
+use Rattle.world_defs.specs.declared.event.Event.TheVariants.{Begin, Close, Provide, Send, Poll, Revoke, Pull, Plug}
 use Rattle.world_defs.specs.declared.effect.Effect.{Effect}
-use Rattle.world_defs.specs.World.{WorldState, adopted_by}
-use Rattle.world_defs.specs.Step.{step}
+use Rattle.world_defs.specs.World.{WorldState, addresses, adopted_by}
+use Rattle.world_defs.specs.Step.{step, steps}
+use Rattle.world_defs.specs.Row.{IsRow}
+use Rattle.world_defs.specs.EightBits.{IsByteEvent}
+use Rattle.world_defs.proofs.LogRows.{all-map, row-of}
 use Rattle.world_defs.specs.Logs as log
 use Rattle.world_defs.specs.Log.{Log}
 use Rattle.world_laws.proofs.Shapes.{new-world}
+use Rattle.world_laws.proofs.Along.{Along, row-along}
 use Rattle.run_defs.specs.declared.command.Command.{Command}
-use Rattle.run_defs.specs.declared.command.Command.TheVariants.{Walk, Map, Circuit, Routes, Install, Begin as BeginCommand, Close as CloseCommand, Poll as PollCommand, Tokens, Provide as ProvideCommand, Send as SendCommand, Plan, Step, Settle, Finish, Duo}
+use Rattle.run_defs.specs.declared.command.Command.TheVariants.{Walk, Map, Circuit, Routes, Install, Begin as BeginCommand, Close as CloseCommand, Poll as PollCommand, Tokens, Provide as ProvideCommand, Send as SendCommand, Plan, Step, Settle, Finish, Duo, Pull as PullCommand, Plug as PlugCommand, Revoke as RevokeCommand, Broken}
 use Rattle.run_defs.specs.declared.line.ClientCall.{ClientCall}
 use Rattle.run_defs.specs.declared.line.Line.TheVariants.{MapBusy, InstallRefused}
 use Rattle.run_defs.specs.declared.line.InstallCause.TheVariants.{Busy}
 use Rattle.run_defs.specs.Output.{Piece}
 use Rattle.run_defs.specs.Session.{SessionState, LastMap, LastRoutes, new_session, complete_map}
-use Rattle.run_defs.specs.Outcome.{Outcome, says_only, called, event_of, stepped, step_or_idle, fault_of, install_done, install_now, install, map_refused, routes_refused, outcome, set_of, may_install, refusal_cause}
+use Rattle.run_defs.specs.Outcome.{Outcome, says_only, called, event_of, stepped, step_or_idle, fault_of, install_done, install_now, install, map_refused, routes_refused, outcome, set_of, may_install, refusal_cause, revocations}
 use Rattle.run_defs.specs.Run.{Does, Runs}
 use Rattle.run_defs.specs.Run.Does.{determined, maps, circuits, routes}
 use Rattle.run_defs.specs.Run.Runs.{ended, goes_on}
@@ -28,6 +32,17 @@ use Rattle.mapping_laws.specs.Laws.{CanMap}
 use Rattle.run_defs.specs.Headline.{IsCommandOf}
 use Rattle.mapping_laws.specs.Runs.{IsSessionOf, RunKeepsWorld}
 use Rattle.install_laws.proofs.Worlds.{Stays, stays-same, stays-both, stays-event, stays-settle, stays-plan, stays-adopted, stays-asked, stays-installed}
+
+-- each host gives up the epoch of the adopted routes
+pub revoked-row : {Q : Event → Type 0} → ((h : ℕ) → Q (Revoke h)) → (w : WorldState) → IsRow Q w (revocations w) (steps w (revocations w)).1
+revoked-row {Q = Q} all w = row-of w (revocations w) (all-map Q Revoke all (addresses w))
+
+-- so what holds from a world to the next at every event holds then
+pub revoked-of : (R : WorldState → WorldState → Type 0) → Along R IsByteEvent → (w : WorldState) → R w (steps w (revocations w)).1
+revoked-of R g w = row-along g (revoked-row (λ h. tt) w)
+
+stays-revoked : (w : WorldState) → Stays w (steps w (revocations w)).1
+stays-revoked w = revoked-of Stays (record { same = stays-same; both = stays-both; event = λ v e q. stays-event v e }) w
 
 -- an outcome, where there is one, keeps the world
 abbrev StaysIn : SessionState → Option Outcome → Type 0
@@ -90,6 +105,10 @@ outcome-stays n s (Step line) of_n = step-stays s (event_of s.world line)
 outcome-stays n s Settle of_n = stays-settle s.world
 outcome-stays n s Finish of_n = stays-same s.world
 outcome-stays n s (Duo e) of_n = stays-same s.world
+outcome-stays n s (PullCommand at) of_n = stays-event s.world (Pull at)
+outcome-stays n s (PlugCommand a b) of_n = stays-event s.world (Plug a b)
+outcome-stays n s RevokeCommand of_n = stays-revoked s.world
+outcome-stays n s Broken of_n = stays-same s.world
 
 session-stays : (n : Network) (s next : SessionState) → Stays s.world next.world → IsSessionOf n s → IsSessionOf n next
 session-stays n s next k is = record {

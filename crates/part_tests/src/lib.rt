@@ -1,5 +1,5 @@
-//! Tests of calls of connections, ports, cables, installations, epochs, streams, ledgers and hosts that restart, which no
-//! worked text reaches, and worked examples of the bytes of packets. Nothing stands on it.
+//! Tests of calls of connections, ports, cables, installations, epochs, streams, ledgers and hosts that restart, which
+//! no worked text reaches, and worked examples of the bytes of packets. Nothing stands on it.
 //!
 //! | module | has |
 //! |---|---|

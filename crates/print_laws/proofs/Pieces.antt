@@ -20,7 +20,7 @@ use Rattle.world_defs.specs.Step.{step}
 use Rattle.world_defs.specs.Logs as log
 use Rattle.world_defs.specs.Log.{Log}
 use Rattle.run_defs.specs.declared.command.Command.{Command}
-use Rattle.run_defs.specs.declared.command.Command.TheVariants.{Walk, Map, Circuit, Routes, Install, Begin as BeginCommand, Close as CloseCommand, Poll as PollCommand, Tokens, Provide as ProvideCommand, Send as SendCommand, Plan, Step, Settle, Finish, Duo}
+use Rattle.run_defs.specs.declared.command.Command.TheVariants.{Walk, Map, Circuit, Routes, Install, Begin as BeginCommand, Close as CloseCommand, Poll as PollCommand, Tokens, Provide as ProvideCommand, Send as SendCommand, Plan, Step, Settle, Finish, Duo, Pull, Plug, Revoke, Broken}
 use Rattle.run_defs.specs.declared.line.ClientCall.{ClientCall}
 use Rattle.run_defs.specs.declared.line.ClientCall.TheVariants.{Begin as BeginCall, Close as CloseCall, Provide as ProvideCall, Send as SendCall, Poll as PollCall}
 use Rattle.run_defs.specs.declared.line.Line.{Line}
@@ -32,7 +32,7 @@ use Rattle.run_defs.specs.Circuit.{IsCircuitTold}
 use Rattle.run_defs.specs.Circuit.IsCircuitTold.{whole, too_many_nodes}
 use Rattle.run_defs.specs.Output.{Piece, OneLine, MapLines, lines}
 use Rattle.run_defs.specs.Session.{SessionState, LastMap, LastRoutes, complete_map}
-use Rattle.run_defs.specs.Outcome.{Outcome, says_only, called, client_lines, event_of, stepped, step_or_idle, plan_made, fault_of, token_lines, install_done, install_now, install, table_line, map_refused, routes_refused, outcome, set_of, may_install, refusal_cause}
+use Rattle.run_defs.specs.Outcome.{Outcome, says_only, called, client_lines, event_of, stepped, step_or_idle, plan_made, fault_of, token_lines, install_done, install_now, install, table_line, map_refused, routes_refused, outcome, set_of, may_install, refusal_cause, broken_lines}
 use Rattle.run_defs.specs.Run.{Does, Runs, map_pieces, routes_lines}
 use Rattle.run_defs.specs.Run.Does.{determined, maps, circuits, routes}
 use Rattle.run_defs.specs.Run.Runs.{ended, goes_on}
@@ -112,6 +112,10 @@ outcome-read n s (Step line) = step-read n s (event_of s.world line)
 outcome-read n s Settle = (tt, tt)
 outcome-read n s Finish = (tt, tt)
 outcome-read n s (Duo e) = (tt, tt)
+outcome-read n s (Pull at) = (tt, tt)
+outcome-read n s (Plug a b) = (tt, tt)
+outcome-read n s Revoke = (tt, tt)
+outcome-read n s Broken = lines-read n (broken_lines s.world s.world.adopted)
 
 map-read : (n : Network) (l : Line) (m : NetMap) (words : MapWords) → IsReadAgain n m → AreRead n (OneLine l ∷ map_pieces words m)
 map-read n l m Complete is = (tt, (is, tt))

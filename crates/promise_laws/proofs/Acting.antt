@@ -13,19 +13,20 @@ use Rattle.world_defs.specs.Step.{step, after_all}
 use Rattle.world_defs.specs.Sound.{IsSound}
 use Rattle.act_defs.specs.Acts.{Act, Happens, acted, acted_all, AreAdoptable, MayActAll, IsReached}
 use Rattle.run_defs.specs.declared.command.Command.{Command}
-use Rattle.run_defs.specs.declared.command.Command.TheVariants.{Walk, Map, Circuit, Routes, Install, Begin as BeginCommand, Close as CloseCommand, Poll as PollCommand, Tokens, Provide as ProvideCommand, Send as SendCommand, Plan, Step, Settle, Finish, Duo}
+use Rattle.run_defs.specs.declared.command.Command.TheVariants.{Walk, Map, Circuit, Routes, Install, Begin as BeginCommand, Close as CloseCommand, Poll as PollCommand, Tokens, Provide as ProvideCommand, Send as SendCommand, Plan, Step, Settle, Finish, Duo, Pull as PullCommand, Plug as PlugCommand, Revoke as RevokeCommand, Broken}
 use Rattle.run_defs.specs.declared.line.MapWords.{MapWords}
 use Rattle.run_defs.specs.declared.line.Line.TheVariants.{MapBusy, InstallRefused}
 use Rattle.run_defs.specs.declared.line.InstallCause.TheVariants.{Busy}
 use Rattle.run_defs.specs.Mapped.{IsMapped}
 use Rattle.run_defs.specs.Output.{Piece}
 use Rattle.run_defs.specs.Session.{SessionState, LastMap, LastRoutes, complete_map}
-use Rattle.run_defs.specs.Outcome.{Outcome, says_only, event_of, step_or_idle, install_now, install, map_refused, routes_refused, outcome, set_of, may_install, refusal_cause}
+use Rattle.run_defs.specs.Outcome.{Outcome, says_only, event_of, step_or_idle, install_now, install, map_refused, routes_refused, outcome, set_of, may_install, refusal_cause, revocations}
 use Rattle.run_defs.specs.Run.{Does}
 use Rattle.run_defs.specs.Run.Does.{determined, maps, circuits, routes}
 use Rattle.run_laws.specs.Acts.{IsActOf}
 use Rattle.run_laws.proofs.OneMapping.{mapping_is_one}
 use Rattle.mapping_laws.proofs.Holding.{can-install}
+use Rattle.mapping_laws.proofs.Sessions.{revoked-row}
 use Rattle.run_laws.proofs.Reaching.{WereAdoptable, LastAdoptable, adoptable-now, IsLed, run-led, event-bytes}
 use Rattle.world_defs.specs.Log.{Log}
 use Rattle.world_defs.specs.Logs as log
@@ -116,6 +117,10 @@ outcome-acts n s (Step line) of_n net may = step-leads s (event_of s.world line)
 outcome-acts n s Settle of_n net may = by-events s.world _ (log.settle s.world).events (settle-row byte_settles s.world)
 outcome-acts n s Finish of_n net may = by-none s.world
 outcome-acts n s (Duo e) of_n net may = by-none s.world
+outcome-acts n s (PullCommand at) of_n net may = by-event s.world (Event.Pull at) tt
+outcome-acts n s (PlugCommand a b) of_n net may = by-event s.world (Event.Plug a b) tt
+outcome-acts n s RevokeCommand of_n net may = by-events s.world _ (revocations s.world) (revoked-row (λ h. tt) s.world)
+outcome-acts n s Broken of_n net may = by-none s.world
 
 -- what a command that is done stands for
 record Standing (s : SessionState) (c : Command) (next : SessionState) : Type 0 where

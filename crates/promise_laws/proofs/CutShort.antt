@@ -14,13 +14,14 @@ use Rattle.world_defs.specs.Row.{IsPartWay}
 use Rattle.world_defs.specs.EightBits.{IsByteEvent}
 use Rattle.world_defs.proofs.LogRows.{settle-row, asks-row, install-row, byte_settles, byte_asks}
 use Rattle.run_defs.specs.declared.command.Command.{Command}
-use Rattle.run_defs.specs.declared.command.Command.TheVariants.{Walk, Map, Circuit, Routes, Install, Begin as BeginCommand, Close as CloseCommand, Poll as PollCommand, Tokens, Provide as ProvideCommand, Send as SendCommand, Plan, Step, Settle, Finish, Duo}
+use Rattle.run_defs.specs.declared.command.Command.TheVariants.{Walk, Map, Circuit, Routes, Install, Begin as BeginCommand, Close as CloseCommand, Poll as PollCommand, Tokens, Provide as ProvideCommand, Send as SendCommand, Plan, Step, Settle, Finish, Duo, Pull as PullCommand, Plug as PlugCommand, Revoke as RevokeCommand, Broken}
 use Rattle.run_defs.specs.declared.line.MapWords.{MapWords}
 use Rattle.run_defs.specs.declared.line.Line.TheVariants.{MapBusy, InstallRefused}
 use Rattle.run_defs.specs.declared.line.InstallCause.TheVariants.{Busy}
 use Rattle.run_defs.specs.Mapped.{IsMapped}
 use Rattle.run_defs.specs.Session.{SessionState, LastMap, LastRoutes, complete_map}
-use Rattle.run_defs.specs.Outcome.{Outcome, says_only, event_of, step_or_idle, fault_of, install_now, install, map_refused, routes_refused, outcome, set_of, may_install, refusal_cause}
+use Rattle.run_defs.specs.Outcome.{Outcome, says_only, event_of, step_or_idle, fault_of, install_now, install, map_refused, routes_refused, outcome, set_of, may_install, refusal_cause, revocations}
+use Rattle.mapping_laws.proofs.Sessions.{revoked-row}
 use Rattle.mapping_laws.proofs.Words.{mapping_exists}
 use Rattle.promise_laws.specs.CommandActs.{step_acts, install_now_acts, install_acts, acts_of, HasSoundActs}
 use Rattle.promise_laws.specs.CommandActs.StandsFor.{determined, asks}
@@ -74,6 +75,10 @@ acts-there s (Step line) busy = (step_acts (event_of s.world line), refl)
 acts-there s Settle busy = (map Happens (log.settle s.world).events, refl)
 acts-there s Finish busy = ([], refl)
 acts-there s (Duo e) busy = ([], refl)
+acts-there s (PullCommand at) busy = (Happens (Event.Pull at) ∷ [], refl)
+acts-there s (PlugCommand a b) busy = (Happens (Event.Plug a b) ∷ [], refl)
+acts-there s RevokeCommand busy = (map Happens (revocations s.world), refl)
+acts-there s Broken busy = ([], refl)
 
 pub cut_unchanged : (s : SessionState) (c : Command) (v : WorldState) → ((host depth tries : ℕ) → c ≡ Map host depth tries → is_idle s.world.links ≡ false) → v ≡ s.world → IsCutShort s c v
 cut_unchanged s c v busy same = let a = acts-there s c busy in record { acts = a.0; are = determined a.1; way = part-none s.world v a.0 same }
@@ -128,6 +133,10 @@ led-in s (Step line) = led-step s (event_of s.world line)
 led-in s Settle = (settle-row {Q = IsByteEvent} byte_settles s.world).there ∙ sym (acted-events s.world (log.settle s.world).events)
 led-in s Finish = refl
 led-in s (Duo e) = refl
+led-in s (PullCommand at) = refl
+led-in s (PlugCommand a b) = refl
+led-in s RevokeCommand = (revoked-row {Q = IsByteEvent} (λ h. tt) s.world).there ∙ sym (acted-events s.world (revocations s.world))
+led-in s Broken = refl
 
 -- a command that was done, but for its text
 pub cut_done : (s : SessionState) (c : Command) (o : Outcome) (v : WorldState) → outcome s c ≡ Some o → v ≡ o.after.world → IsCutShort s c v
@@ -143,6 +152,10 @@ cut_settled s v p = record { acts = map Happens (log.settle s.world).events; are
 
 pub cut_installed : (s : SessionState) (tries : ℕ) (v : WorldState) → IsPartActed s.world (install_acts s.world tries s.last_routes) v → IsCutShort s (Install tries) v
 cut_installed s tries v p = record { acts = install_acts s.world tries s.last_routes; are = determined refl; way = p }
+
+-- hosts that give up the epoch one after another
+pub cut_revoked : (s : SessionState) (v : WorldState) → IsPartWay s.world (revocations s.world) v → IsCutShort s RevokeCommand v
+cut_revoked s v p = record { acts = map Happens (revocations s.world); are = determined refl; way = part-events s.world v (revocations s.world) p }
 
 -- the acts of an installation, by whether it is refused
 abbrev unless : Bool → Bool → List Act → List Act

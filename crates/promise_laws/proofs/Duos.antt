@@ -16,7 +16,7 @@ use Rattle.duo_laws.proofs.Order.{got-prefix}
 use Rattle.duo_laws.proofs.Owners.{one-owner}
 use Rattle.duo_laws.proofs.Polls.{polls-right}
 use Rattle.run_defs.specs.declared.command.Command.{Command}
-use Rattle.run_defs.specs.declared.command.Command.TheVariants.{Walk, Map, Circuit, Routes, Install, Begin, Close, Poll, Tokens, Provide, Send, Plan, Step, Settle, Finish, Duo}
+use Rattle.run_defs.specs.declared.command.Command.TheVariants.{Walk, Map, Circuit, Routes, Install, Begin, Close, Poll, Tokens, Provide, Send, Plan, Step, Settle, Finish, Duo, Pull, Plug, Revoke, Broken}
 use Rattle.run_defs.specs.declared.line.Line.TheVariants.{MapBusy, InstallRefused, Duo as DuoLine}
 use Rattle.run_defs.specs.declared.line.InstallCause.TheVariants.{Busy}
 use Rattle.run_defs.specs.Duos.{begun, beside, IsOther}
@@ -117,6 +117,10 @@ outcome-beside s (Step line) d other = ap Some (step-beside s (event_of s.world 
 outcome-beside s Settle d other = refl
 outcome-beside s Finish d other = refl
 outcome-beside s (Duo e) d other = absurd (other e refl)
+outcome-beside s (Pull at) d other = refl
+outcome-beside s (Plug a b) d other = refl
+outcome-beside s Revoke d other = refl
+outcome-beside s Broken d other = refl
 
 -- another command does the same beside other two hosts
 pub does-beside : {s next : SessionState} {c : Command} {out : List Piece} → (d : Option DuoState) → IsOther c → Does s c out next → Does (beside s d) c out (beside next d)
@@ -172,6 +176,10 @@ outcome-keeps s (Step line) other = step-keeps s (event_of s.world line)
 outcome-keeps s Settle other = refl
 outcome-keeps s Finish other = refl
 outcome-keeps s (Duo e) other = absurd (other e refl)
+outcome-keeps s (Pull at) other = refl
+outcome-keeps s (Plug a b) other = refl
+outcome-keeps s Revoke other = refl
+outcome-keeps s Broken other = refl
 
 does-keep : {s next : SessionState} {c : Command} {out : List Piece} → IsOther c → Does s c out next → next.duo ≡ s.duo
 does-keep {s = s} {c = c} other (determined is) = subst (KeepsIn s) is (outcome-keeps s c other)
@@ -200,6 +208,10 @@ acts-beside s (Step line) d = refl
 acts-beside s Settle d = refl
 acts-beside s Finish d = refl
 acts-beside s (Duo e) d = refl
+acts-beside s (Pull at) d = refl
+acts-beside s (Plug a b) d = refl
+acts-beside s Revoke d = refl
+acts-beside s Broken d = refl
 
 stands-beside : {s : SessionState} {c : Command} {acts : List Act} → (d : Option DuoState) → StandsFor s c acts → StandsFor (beside s d) c acts
 stands-beside {s = s} {c = c} d (told is) = told (acts-beside s c d ∙ is)
@@ -264,6 +276,10 @@ line-or-other (Plan ahead kind) = inr (λ e p. cc)
 line-or-other (Step line) = inr (λ e p. cc)
 line-or-other Settle = inr (λ e p. cc)
 line-or-other Finish = inr (λ e p. cc)
+line-or-other (Pull at) = inr (λ e p. cc)
+line-or-other (Plug a b) = inr (λ e p. cc)
+line-or-other Revoke = inr (λ e p. cc)
+line-or-other Broken = inr (λ e p. cc)
 
 does-reach : {s next : SessionState} {c : Command} {out : List Piece} → (n : Network) → IsSaid n c → AreReached s.duo → Does s c out next → AreReached next.duo
 does-reach {s = s} {next = next} {c = c} n said is does = by (line-or-other c)

@@ -4,7 +4,10 @@ pub mod CutShort
 pub mod Duos
 pub mod OneAction
 pub mod OneChannel
+pub mod Plugs
+pub mod Pulls
 pub mod ReceivedLines
+pub mod Revoking
 pub mod Running
 pub mod Said
 pub mod Sound

@@ -18,9 +18,10 @@ use Rattle.map_defs.specs.Ranks.{ranks_of}
 use Rattle.world_defs.specs.declared.effect.Effect.{Effect}
 use Rattle.world_defs.specs.declared.effect.Said.{Said}
 use Rattle.world_defs.specs.declared.event.Event.{Event}
-use Rattle.world_defs.specs.declared.event.Event.TheVariants.{Inject, GiveUp, Advance, Lose, Repeat, Hold, Reset, Flip, Expire, Replay, Send, Poll}
+use Rattle.world_defs.specs.declared.event.Event.TheVariants.{Inject, GiveUp, Advance, Lose, Repeat, Hold, Reset, Flip, Expire, Replay, Pull, Plug, Send, Poll}
 use Rattle.world_defs.specs.Node.{port_at}
 use Rattle.world_defs.specs.Client.{Called, sent_by}
+use Rattle.world_defs.specs.Table.{Adoption}
 use Rattle.world_defs.specs.World.{WorldState, new_world, node_at, client_at, adopted_by, may_adopt}
 use Rattle.world_defs.specs.Sound.{IsPrefix}
 use Rattle.world_defs.specs.Step.{wanted, step}
@@ -29,7 +30,7 @@ use Rattle.world_defs.specs.Logs as log
 use Rattle.world_defs.proofs.LogRows.{SettlesBy, AsksBy, settle-row, asks-row, install-row}
 use Rattle.act_defs.specs.Acts.{Act, Happens, Plans, Adopts, acted, acted_all, MayActAll, IsReached}
 use Rattle.run_defs.specs.declared.command.Command.{Command}
-use Rattle.run_defs.specs.declared.command.Command.TheVariants.{Walk, Map, Circuit, Routes, Install, Begin as BeginCommand, Close as CloseCommand, Poll as PollCommand, Tokens, Provide as ProvideCommand, Send as SendCommand, Plan, Step, Settle, Finish, Duo}
+use Rattle.run_defs.specs.declared.command.Command.TheVariants.{Walk, Map, Circuit, Routes, Install, Begin as BeginCommand, Close as CloseCommand, Poll as PollCommand, Tokens, Provide as ProvideCommand, Send as SendCommand, Plan, Step, Settle, Finish, Duo, Pull as PullCommand, Plug as PlugCommand, Revoke as RevokeCommand, Broken}
 use Rattle.run_defs.specs.declared.command.StepLine.{StepLine}
 use Rattle.run_defs.specs.declared.command.StepLine.TheVariants.{Inject as InjectLine, GiveUp as GiveUpLine, Advance as AdvanceLine, Lose as LoseLine, Repeat as RepeatLine, Hold as HoldLine, Reset as ResetLine, Flip as FlipLine, Expire as ExpireLine, Replay as ReplayLine}
 use Rattle.run_defs.specs.declared.line.ClientCall.TheVariants.{Send as SendCall, Poll as PollCall}
@@ -37,16 +38,17 @@ use Rattle.run_defs.specs.declared.line.InstallCause.TheVariants.{Busy}
 use Rattle.run_defs.specs.declared.line.MapWords.{MapWords}
 use Rattle.run_defs.specs.declared.line.MapWords.TheVariants.{Complete, Doubtful, IncompleteDepth, IncompleteNodes}
 use Rattle.run_defs.specs.declared.line.Line.{Line}
-use Rattle.run_defs.specs.declared.line.Line.TheVariants.{Client, MapBusy, InstallRefused, Installed, EndRoutes}
+use Rattle.run_defs.specs.declared.line.Line.TheVariants.{Client, MapBusy, InstallRefused, Installed, EndRoutes, Broken as BrokenLine, EndBroken}
 use Rattle.run_defs.specs.Circuit.{IsCircuitTold}
 use Rattle.run_defs.specs.Circuit.IsCircuitTold.{whole, too_many_nodes}
 use Rattle.run_defs.specs.Duos.{begun}
 use Rattle.run_defs.specs.Output.{Piece, OneLine, MapLines, lines}
 use Rattle.run_defs.specs.Session.{SessionState, LastMap, LastRoutes, complete_map}
-use Rattle.run_defs.specs.Outcome.{Outcome, says_only, called, on_channel, event_of, fault_of, stepped, step_or_idle, token_lines, table_line, install_done, install_now, install, map_refused, routes_refused, duo_done, outcome, set_of, may_install, refusal_cause}
+use Rattle.run_defs.specs.Outcome.{Outcome, says_only, called, on_channel, event_of, fault_of, stepped, step_or_idle, token_lines, table_line, install_done, install_now, install, map_refused, routes_refused, duo_done, outcome, set_of, may_install, refusal_cause, revocations, broken_routes, broken_lines}
 use Rattle.run_defs.specs.Run.{Does, Runs, IsRun, map_pieces, route_line, rank_line, routes_lines}
 use Rattle.run_defs.specs.Run.Does.{determined, maps, circuits, routes}
 use Rattle.run_defs.specs.Run.Runs.{ended, goes_on}
+use Rattle.mapping_laws.proofs.Sessions.{revoked-row}
 use Rattle.run_laws.specs.Acts.{IsActOf}
 use Rattle.run_laws.proofs.RunsOnce.{runs-more}
 use Rattle.message_laws.proofs.HostTickets.{all-front}
@@ -248,6 +250,13 @@ tokens-silent h port (Some p) = one-silent _ tt
 duo-silent : (s : SessionState) (r : DuoEffect × DuoState) → IsSilent (duo_done s r).output
 duo-silent s (effect, d) = one-silent _ tt
 
+-- routes that are broken
+broken-silent : (w : WorldState) (o : Option Adoption) → IsSilent (lines (broken_lines w o))
+broken-silent w None = one-silent _ tt
+broken-silent w (Some a) =
+    let line : Route → Line = λ r. BrokenLine r.from r.to in
+    lines-silent (map line (broken_routes w a) ++ EndBroken ∷ []) (mapped-other line (broken_routes w a) (EndBroken ∷ []) (λ r. tt) (tt, tt))
+
 outcome-shows : (s : SessionState) (cmd : Command) → ShowsIn s cmd (outcome s cmd) (acts_of s cmd)
 outcome-shows s (Walk host walk) = quiet-shows s.world (Walk host walk) _ refl tt
 outcome-shows s (Map host depth tries) = busy-shows s host depth tries
@@ -265,6 +274,10 @@ outcome-shows s (Step line) = step-shows s line (event_of s.world line) (line-ca
 outcome-shows s Settle = silent-shows s.world Settle _ (map Happens (log.settle s.world).events) refl (one-silent _ tt) (calm-still s.world (log.settle s.world).events (settle-row calm-settles s.world).kinds)
 outcome-shows s Finish = quiet-shows s.world Finish _ refl tt
 outcome-shows s (Duo e) = silent-shows s.world (Duo e) _ [] refl (duo-silent s (duo_step (begun s.duo) e)) (no-acts s.world)
+outcome-shows s (PullCommand at) = event-shows s.world (PullCommand at) _ (Pull at) refl tt tt
+outcome-shows s (PlugCommand a b) = event-shows s.world (PlugCommand a b) _ (Plug a b) refl tt tt
+outcome-shows s RevokeCommand = silent-shows s.world RevokeCommand _ (map Happens (revocations s.world)) refl (one-silent _ tt) (calm-still s.world (revocations s.world) (revoked-row {Q = IsCalm} (λ h. tt) s.world).kinds)
+outcome-shows s Broken = silent-shows s.world Broken _ [] refl (broken-silent s.world s.world.adopted) (no-acts s.world)
 
 -- the acts that a command stands for, with what its lines show
 record Showing (s : SessionState) (cmd : Command) (out : List Piece) : Type 0 where

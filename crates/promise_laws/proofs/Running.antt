@@ -5,7 +5,7 @@ use Rattle.std.proofs.lemmas.List.{append-nil}
 use Rattle.net_defs.specs.Network.{Network, IsFabric}
 use Rattle.net_defs.proofs.Distinct.{all-push}
 use Rattle.run_defs.specs.declared.command.Command.{Command}
-use Rattle.run_defs.specs.declared.command.Command.TheVariants.{Walk, Map, Circuit, Routes, Install, Begin, Close, Poll, Tokens, Provide, Send, Plan, Step, Settle, Finish, Duo}
+use Rattle.run_defs.specs.declared.command.Command.TheVariants.{Walk, Map, Circuit, Routes, Install, Begin, Close, Poll, Tokens, Provide, Send, Plan, Step, Settle, Finish, Duo, Pull, Plug, Revoke, Broken}
 use Rattle.run_defs.specs.declared.line.Line.TheVariants.{Map as MapLine}
 use Rattle.cable_history.proofs.Now.{now_is_fabric}
 use Rattle.world_defs.specs.World.{fabric_of}
@@ -61,6 +61,10 @@ undetermined n s (Step line) f of_n led e = cc
 undetermined n s Settle f of_n led e = cc
 undetermined n s Finish f of_n led e = cc
 undetermined n s (Duo happens) f of_n led e = cc
+undetermined n s (Pull at) f of_n led e = cc
+undetermined n s (Plug a b) f of_n led e = cc
+undetermined n s Revoke f of_n led e = cc
+undetermined n s Broken f of_n led e = cc
 
 does-exist : (n : Network) (s : SessionState) (c : Command) → IsFabric n → IsActOf n c → IsLed n s → HasDone s c
 does-exist n s c f of_n led = by (outcome s c) refl

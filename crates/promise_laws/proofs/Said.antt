@@ -6,8 +6,8 @@ use Rattle.net_defs.specs.declared.vertex.Vertex.TheVariants.{Host}
 use Rattle.net_defs.specs.Network.{Network, has_vertex}
 use Rattle.net_defs.proofs.Distinct.{all-weaker}
 use Rattle.run_defs.specs.declared.command.Command.{Command}
-use Rattle.run_defs.specs.declared.command.Command.TheVariants.{Walk, Map, Circuit, Routes, Install, Begin, Close, Poll, Tokens, Provide, Send, Plan, Step, Settle, Finish, Duo}
-use Rattle.run_defs.specs.declared.command.PlanKind.TheVariants.{Lose, Repeat, Hold, Flip}
+use Rattle.run_defs.specs.declared.command.Command.TheVariants.{Walk, Map, Circuit, Routes, Install, Begin, Close, Poll, Tokens, Provide, Send, Plan, Step, Settle, Finish, Duo, Pull, Plug, Revoke, Broken}
+use Rattle.run_defs.specs.declared.command.PlanKind.TheVariants.{Lose, Repeat, Hold, Flip, Pull as PullPlan}
 use Rattle.run_defs.specs.declared.command.StepLine.{StepLine}
 use Rattle.run_defs.specs.declared.command.StepLine.TheVariants.{Flip as FlipStep}
 use Rattle.run_defs.specs.Script.{script_reading}
@@ -38,10 +38,15 @@ said-command n (Plan ahead Lose) is = tt
 said-command n (Plan ahead Repeat) is = tt
 said-command n (Plan ahead Hold) is = tt
 said-command n (Plan ahead (Flip bit pattern)) is = let low = is.1.1.1 in omega (arith, low)
+said-command n (Plan ahead (PullPlan at)) is = tt
 said-command n (Step line) is = tt
 said-command n Settle is = tt
 said-command n Finish is = tt
 said-command n (Duo e) is = tt
+said-command n (Pull at) is = tt
+said-command n (Plug a b) is = tt
+said-command n Revoke is = tt
+said-command n Broken is = tt
 
 said-all : (n : Network) (line : ℕ) (text : List ℕ) (commands : List Command) → script_reading n line text ≡ Ok commands → AllByRecursion (IsCommandOf n) commands
 said-all n line text commands said = all-weaker (IsSaid n) (IsCommandOf n) commands (said-command n) (reading_ranged n line text (Ok commands) said)

@@ -6,7 +6,7 @@ use Rattle.link_defs.specs.Links.{is_idle}
 use Rattle.journal_defs.specs.declared.entry.Entry.{Entry}
 use Rattle.map_defs.specs.NetMap.{NetMap}
 use Rattle.world_defs.specs.declared.event.Event.{Event}
-use Rattle.world_defs.specs.declared.event.Event.TheVariants.{Begin, Close, Provide, Send, Poll}
+use Rattle.world_defs.specs.declared.event.Event.TheVariants.{Begin, Close, Provide, Send, Poll, Pull, Plug}
 use Rattle.world_defs.specs.World.{WorldState, adopted_by}
 use Rattle.world_defs.specs.Sound.{IsSound}
 use Rattle.message_laws.specs.Filling.{HasTiedParts}
@@ -16,11 +16,13 @@ use Rattle.run_defs.specs.declared.command.Command.TheVariants.{Walk, Map, Circu
 use Rattle.run_defs.specs.declared.command.Command.TheVariants.{Begin as BeginCommand, Close as CloseCommand}
 use Rattle.run_defs.specs.declared.command.Command.TheVariants.{Poll as PollCommand, Tokens, Provide as ProvideCommand}
 use Rattle.run_defs.specs.declared.command.Command.TheVariants.{Send as SendCommand, Plan, Step, Settle, Finish, Duo}
+use Rattle.run_defs.specs.declared.command.Command.TheVariants.{Pull as PullCommand, Plug as PlugCommand}
+use Rattle.run_defs.specs.declared.command.Command.TheVariants.{Revoke as RevokeCommand, Broken}
 use Rattle.run_defs.specs.declared.line.MapWords.{MapWords}
 use Rattle.run_defs.specs.Mapped.{IsMapped}
 use Rattle.run_defs.specs.Output.{Piece}
 use Rattle.run_defs.specs.Session.{SessionState, LastRoutes}
-use Rattle.run_defs.specs.Outcome.{event_of, fault_of, set_of, may_install}
+use Rattle.run_defs.specs.Outcome.{event_of, fault_of, set_of, may_install, revocations}
 use Rattle.run_defs.specs.Run.{Does, IsRun}
 use Rattle.run_laws.specs.Acts.{IsActOf}
 use Rattle.world_defs.specs.Logs as log
@@ -60,6 +62,10 @@ acts_of s (Step line) = Some (step_acts (event_of s.world line))
 acts_of s Settle = Some (map Happens (log.settle s.world).events)
 acts_of s Finish = Some []
 acts_of s (Duo e) = Some []
+acts_of s (PullCommand at) = Some (Happens (Pull at) ∷ [])
+acts_of s (PlugCommand a b) = Some (Happens (Plug a b) ∷ [])
+acts_of s RevokeCommand = Some (map Happens (revocations s.world))
+acts_of s Broken = Some []
 
 -- The acts that a command stands for in a session. Those of a map that is made are the events of its asks.
 pub data StandsFor (s : SessionState) : Command → List Act → Type 0 where

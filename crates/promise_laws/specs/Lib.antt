@@ -1,3 +1,4 @@
+pub mod CableLines
 pub mod CommandActs
 pub mod CutShort
 pub mod Duos

@@ -19,9 +19,9 @@ pub fn acts_of_cut_commands()
     ensures sound { CutCommandsLeaveSound }
 {}
 
-/// Each act is one action, of one host, of one channel or of one cable: all other hosts stay with their clients, and all
-/// other channels, but for the one that an injection enters, the channel or host that an advance leads into, and those
-/// of a cable that a planned pull takes at an injection.
+/// Each act is one action, of one host, of one channel or of one cable: all other hosts stay with their clients, and
+/// all other channels, but for the one that an injection enters, the channel or host that an advance leads into, and
+/// those of a cable that a planned pull takes at an injection.
 pub fn acts_of_one_actor()
     ensures { ActsAreOneAction }
 {}

@@ -5,17 +5,19 @@
 //!
 //! | file of `specs/` | says |
 //! |---|---|
+//! | `CableLines` | what lines `pull`, `plug`, `revoked` say: which cables came and went, who gave up an epoch |
 //! | `CommandActs` | which acts a command stands for, and that after each prefix of them the world is sound |
 //! | `CutShort` | that a command is cut short, and a map that was begun |
 //! | `Duos` | what a command depends on, of the two hosts that restart, and what they come to in a run |
 //! | `OneAction` | whose an act is, and that it is one action, of one host, of one channel or of one cable |
 //! | `Existence` | each command does something after every run, and so there is a run |
-//! | `ReceivedLines` | what lines `received` show, against the `send` lines that have a token: once, in order, byte for byte |
+//! | `ReceivedLines` | what lines `received` show, against `send` lines with a token: once, in order, byte for byte |
 //! | `Promised` | every moment is sound, and every run keeps its promise |
 //! | `Scripts` | what every script promises that is read without a fault |
 //! | `Examples` | whose acts of a message's way are, and how epochs follow |
 #![tactic(auto)]
 
+mod cable_lines;
 mod command_acts;
 mod duo_lines;
 mod existence;
@@ -24,6 +26,7 @@ mod received_lines;
 mod scripts;
 mod worked;
 
+pub use cable_lines::{plug_lines, pull_lines, revoke_lines};
 pub use command_acts::{acts_of_commands, acts_of_cut_commands, acts_of_one_actor};
 pub use duo_lines::{dependence_on_the_duo, duos_of_runs};
 pub use existence::runs_exist;

@@ -13,35 +13,39 @@ use Rattle.duo_defs.specs.declared.effect.DuoEffect.{DuoEffect}
 use Rattle.duo_defs.specs.Duo.{DuoState}
 use Rattle.duo_defs.specs.Step.{step as duo_step}
 use Rattle.world_defs.specs.declared.event.Event.{Event}
-use Rattle.world_defs.specs.declared.event.Event.TheVariants.{Begin, Close, Provide, Send, Poll}
+use Rattle.world_defs.specs.declared.event.Event.TheVariants.{Begin, Close, Provide, Send, Poll, Pull, Plug}
 use Rattle.world_defs.specs.declared.effect.Effect.{Effect}
 use Rattle.world_defs.specs.World.{WorldState, host_count, addresses, adopted_by}
-use Rattle.world_defs.specs.Step.{step}
+use Rattle.world_defs.specs.Step.{step, steps}
 use Rattle.world_defs.specs.Log.{Log}
 use Rattle.world_defs.specs.Logs as log
+use Rattle.world_laws.proofs.Along.{Along, row-along}
+use Rattle.world_laws.proofs.Leaves.{IsNoCall}
 use Rattle.message_laws.proofs.Known.{reached-count}
 use Rattle.act_defs.specs.Acts.{Happens, Plans, IsReached}
 use Rattle.run_defs.specs.declared.command.Command.{Command}
-use Rattle.run_defs.specs.declared.command.Command.TheVariants.{Walk, Map, Circuit, Routes, Install, Begin as BeginCommand, Close as CloseCommand, Poll as PollCommand, Tokens, Provide as ProvideCommand, Send as SendCommand, Plan, Step, Settle, Finish, Duo}
+use Rattle.run_defs.specs.declared.command.Command.TheVariants.{Walk, Map, Circuit, Routes, Install, Begin as BeginCommand, Close as CloseCommand, Poll as PollCommand, Tokens, Provide as ProvideCommand, Send as SendCommand, Plan, Step, Settle, Finish, Duo, Pull as PullCommand, Plug as PlugCommand, Revoke as RevokeCommand, Broken}
 use Rattle.run_defs.specs.declared.line.Line.TheVariants.{MapBusy, InstallRefused}
 use Rattle.run_defs.specs.declared.line.InstallCause.TheVariants.{Busy}
 use Rattle.run_defs.specs.Output.{Piece}
 use Rattle.run_defs.specs.Session.{SessionState, LastMap, LastRoutes, complete_map}
-use Rattle.run_defs.specs.Outcome.{Outcome, says_only, event_of, stepped, step_or_idle, fault_of, install_done, install_now, install, map_refused, routes_refused, duo_done, outcome, set_of, may_install, refusal_cause}
+use Rattle.run_defs.specs.Outcome.{Outcome, says_only, event_of, stepped, step_or_idle, fault_of, install_done, install_now, install, map_refused, routes_refused, duo_done, outcome, set_of, may_install, refusal_cause, revocations}
 use Rattle.run_defs.specs.Duos.{begun}
 use Rattle.run_defs.specs.Run.{Does, Runs, IsRun, hosts_by_address}
 use Rattle.run_defs.specs.Run.Does.{determined, maps, circuits, routes}
 use Rattle.run_defs.specs.Run.Runs.{ended, goes_on}
 use Rattle.fab_script.specs.Ranges.{IsCommandOf}
+use Rattle.mapping_laws.proofs.Sessions.{revoked-row}
 use Rattle.run_laws.specs.Acts.{IsActOf}
 use Rattle.run_laws.proofs.Reaching.{run-led, run_is_reached}
 use Rattle.run_laws.proofs.RunsOnce.{runs-more}
 use Rattle.install_line_laws.proofs.Lines.{run-set}
 use Rattle.promise_laws.proofs.Said.{said-act}
+use Rattle.injection_bounds.specs.Paid.{event_cost}
 use Rattle.injection_bounds.specs.Settled.{pledged}
 use Rattle.injection_bounds.specs.Commands.{HasFewParts}
 use Rattle.injection_bounds.proofs.Settling.{settle-costs}
-use Rattle.injection_bounds.proofs.Asking.{install-costs}
+use Rattle.injection_bounds.proofs.Asking.{event-pledged, install-costs}
 use Rattle.injection_bounds.proofs.Events.{act-costs, adopts-pledged}
 use Rattle.run_bounds.specs.Runs.{command_cost, RunsInjectFew}
 use Rattle.run_bounds.proofs.Asks.{asks-cost, few-asks}
@@ -116,6 +120,20 @@ settle-cost n s r =
     let cost = settle-costs n s.world r in
     omega (arith, cost)
 
+-- hosts that give up the epoch one after another: each brings nothing
+abbrev BringsNothing : Event → Type 0
+BringsNothing e = IsNoCall e × ((w : WorldState) → event_cost w e ≡ 0)
+
+abbrev NoDearer : WorldState → WorldState → Type 0
+NoDearer u v = pledged v ≤ pledged u
+
+revoked-costs : (w : WorldState) → pledged (steps w (revocations w)).1 ≤ pledged w + command_cost
+revoked-costs w =
+    let event : (v : WorldState) (e : Event) → BringsNothing e → NoDearer v (step v e).1 = λ v e q. let a = event-pledged v e q.0 in let b = q.1 v in omega (arith, a, b) in
+    let along : Along NoDearer BringsNothing = record { same = λ v. omega arith; both = λ t u v a b. omega (arith, a, b); event = event } in
+    let cost : pledged (steps w (revocations w)).1 ≤ pledged w = row-along along (revoked-row {Q = BringsNothing} (λ h. (tt, λ v. refl)) w) in
+    omega (arith, cost)
+
 outcome-costs : (n : Network) (s : SessionState) (c : Command) → IsCommandOf n c → IsReached n s.world → KeepsSmall s → CostsIn s (outcome s c)
 outcome-costs n s (Walk host walk) said r small = nothing s
 outcome-costs n s (Map host depth tries) said r small = busy-costs s host
@@ -133,6 +151,10 @@ outcome-costs n s (Step line) said r small = step-costs n s (event_of s.world li
 outcome-costs n s Settle said r small = (settle-cost n s r, refl)
 outcome-costs n s Finish said r small = nothing s
 outcome-costs n s (Duo line) said r small = duo-costs s (duo_step (begun s.duo) line)
+outcome-costs n s (PullCommand at) said r small = (event-costs n s.world (Pull at) r, refl)
+outcome-costs n s (PlugCommand a b) said r small = (event-costs n s.world (Plug a b) r, refl)
+outcome-costs n s RevokeCommand said r small = (revoked-costs s.world, refl)
+outcome-costs n s Broken said r small = nothing s
 
 -- every command
 does-costs : {s next : SessionState} {c : Command} {out : List Piece} → (n : Network) → IsCommandOf n c → IsReached n s.world → KeepsSmall s → Does s c out next → pledged next.world ≤ pledged s.world + command_cost

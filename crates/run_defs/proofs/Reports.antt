@@ -1,22 +1,23 @@
 -- The reports of the worked examples, computed.
-use Rattle.std.proofs.Common.{◌≡◌, refl, [], ◌∷◌, pos, negsuc}
+use Rattle.std.proofs.Common.{◌≡◌, refl, [], ◌∷◌, pos, negsuc, true}
 use Rattle.std.specs.Prelude.{codes}
 use Rattle.std.specs.Fmt.{digits}
 use Rattle.world_defs.specs.Table.{applied}
 use Rattle.world_defs.specs.Node.{to_send, packet_for, after_sending}
 use Rattle.world_defs.specs.Hearing.{hear}
 use Rattle.world_defs.specs.Client.{begun, closed, provided_by, sent_by, polled_by}
-use Rattle.world_defs.specs.Step.{lost, was_reset, repeated, held, flipped, replayed, asked, part_staged, planned_strikes, sent_out, injected, advanced, expired, gave_up}
-use Rattle.net_defs.specs.Examples.{two_hosts}
+use Rattle.world_defs.specs.Step.{lost, was_reset, repeated, held, flipped, replayed, pulled, plugged, asked, part_staged, planned_strikes, sent_out, injected, advanced, expired, gave_up, revoked}
+use Rattle.net_defs.specs.Examples.{two_hosts, host_end, switch_end}
 use Rattle.net_defs.specs.declared.place.Place.{Place}
 use Rattle.world_defs.specs.declared.effect.Said.{Said}
 use Rattle.run_defs.specs.declared.line.Line.{Line}
 use Rattle.run_defs.specs.declared.line.MapWords.{MapWords}
+use Rattle.run_defs.specs.declared.line.PlugWords.{PlugWords}
 use Rattle.run_defs.specs.declared.line.ClientCall.{ClientCall}
 use Rattle.run_defs.specs.LineText.{line_text, map_text, output_text}
 use Rattle.run_defs.specs.Output.{lines}
 use Rattle.run_defs.specs.Summary.{figures_in, summary}
-use Rattle.run_defs.specs.Examples.{setup_map, text_of, printed, fresh, installed_session, refused_calls, closing, single_events, message_output, restarting}
+use Rattle.run_defs.specs.Examples.{setup_map, text_of, printed, fresh, installed_session, refused_calls, closing, single_events, message_output, restarting, pulling, cables_without_routes}
 use Rattle.world_defs.specs.Logs as log
 
 pub refusals_text : printed refused_calls fresh ≡ text_of (codes "open a 0 done" ∷ codes "open a 0 refused already" ∷ codes "provide a 0 refused badsize" ∷ codes "provide a 0 token 0" ∷ codes "provide a 0 refused notoken" ∷ codes "send a 0 refused noroute" ∷ codes "send a 1 refused notopen" ∷ codes "poll a 1 refused notopen" ∷ codes "poll a 0 nothing" ∷ codes "routes refused nomap" ∷ codes "install refused noroutes" ∷ codes "end injected 0 dropped 0" ∷ [])
@@ -30,6 +31,14 @@ closing_text = refl
 pub single_events_text : printed single_events installed_session ≡ text_of (codes "open a 0 done" ∷ codes "open b 1 done" ∷ codes "provide b 1 token 0" ∷ codes "provide b 1 token 1" ∷ codes "send a 0 token 0" ∷ codes "send a 0 token 1" ∷ codes "step injected 65" ∷ codes "step moved s 5" ∷ codes "step injected 66" ∷ codes "step idle" ∷ codes "step blocked s 5" ∷ codes "map a refused busy" ∷ codes "step arrived b message" ∷ codes "step moved s 5" ∷ codes "step lost" ∷ codes "step idle" ∷ codes "settle rounds 1 resets 0 unacked 0" ∷ codes "poll b 1 received token 0 from a 0 prio 0 len 1 bytes 01" ∷ codes "poll b 1 received token 1 from a 0 prio 0 len 1 bytes 02" ∷ codes "end injected 71 dropped 59" ∷ [])
 unfolding begun closed provided_by sent_by polled_by hear log.drain log.clear log.round_pass log.round log.settle log.sends log.host_try log.loop_try log.ask log.part_try log.install to_send packet_for after_sending lost was_reset repeated held flipped replayed asked part_staged planned_strikes sent_out injected advanced expired gave_up applied digits
 single_events_text = refl
+
+pub pulling_text : printed pulling installed_session ≡ text_of (codes "open a 0 done" ∷ codes "open b 1 done" ∷ codes "provide b 1 token 0" ∷ codes "send a 0 token 0" ∷ codes "pull s 5 done" ∷ codes "pull b 0 refused nocable" ∷ codes "settle rounds 1 resets 0 unacked 1" ∷ codes "broken a b" ∷ codes "broken b a" ∷ codes "endbroken" ∷ codes "plug a 0 s 5 refused portused" ∷ codes "plug b 0 s 5 done" ∷ codes "settle rounds 1 resets 0 unacked 1" ∷ codes "install refused changed" ∷ codes "revoked 2" ∷ codes "end injected 66 dropped 61" ∷ [])
+unfolding begun closed provided_by sent_by polled_by hear log.drain log.clear log.round_pass log.round log.settle log.sends log.host_try log.loop_try log.ask log.part_try log.install to_send packet_for after_sending lost was_reset repeated held flipped replayed pulled plugged asked part_staged planned_strikes sent_out injected advanced expired gave_up revoked applied digits
+pulling_text = refl
+
+pub cables_text : printed cables_without_routes fresh ≡ text_of (codes "broken refused noroutes" ∷ codes "revoked 0" ∷ codes "plug s 3 s 3 refused portused" ∷ codes "plug s 3 s 4 done" ∷ codes "plan at 1" ∷ codes "end injected 0 dropped 0" ∷ [])
+unfolding begun closed provided_by sent_by polled_by hear log.drain log.clear log.round_pass log.round log.settle log.sends log.host_try log.loop_try log.ask log.part_try log.install to_send packet_for after_sending lost was_reset repeated held flipped replayed pulled plugged asked part_staged planned_strikes sent_out injected advanced expired gave_up revoked applied digits
+cables_text = refl
 
 pub restarting_text : printed restarting fresh ≡ text_of (codes "duo token 0" ∷ codes "duo token 0" ∷ codes "duo emitted 0" ∷ codes "duo hello" ∷ codes "duo emitted 1" ∷ codes "duo hello" ∷ codes "duo emitted 2" ∷ codes "duo restarted 2" ∷ codes "duo stale" ∷ codes "duo emitted 3" ∷ codes "duo hello" ∷ codes "duo unsure 0" ∷ [])
 unfolding digits
@@ -62,6 +71,14 @@ line_empty_message = refl
 pub line_message : line_text two_hosts (Line.Client ClientCall.Poll 1 1 (Said.Received 0 0 0 0 (65 ∷ 10 ∷ 254 ∷ []))) ≡ text_of (codes "poll b 1 received token 0 from a 0 prio 0 len 3 bytes 410afe" ∷ [])
 unfolding digits
 line_message = refl
+
+pub line_pulled : line_text two_hosts (Line.Pull (switch_end 0 5) true) ≡ text_of (codes "pull s 5 done" ∷ [])
+unfolding digits
+line_pulled = refl
+
+pub line_full : line_text two_hosts (Line.Plug (host_end 1) (switch_end 0 5) PlugWords.Full) ≡ text_of (codes "plug b 0 s 5 refused full" ∷ [])
+unfolding digits
+line_full = refl
 
 pub map_lines : map_text two_hosts setup_map ≡ text_of (codes "host a" ∷ codes "switch #0 core" ∷ codes "host b" ∷ codes "cable a 0 #0 0" ∷ codes "cable #0 +3 b 0" ∷ codes "endmap" ∷ [])
 unfolding digits

@@ -12,7 +12,9 @@ use Rattle.world_defs.specs.Examples.{setup, setup_routes}
 use Rattle.world_defs.specs.Logs as log
 use Rattle.run_defs.specs.declared.command.Command.{Command}
 use Rattle.run_defs.specs.declared.command.Command.TheVariants.{Map, Routes, Install, Begin, Close, Poll, Tokens}
-use Rattle.run_defs.specs.declared.command.Command.TheVariants.{Provide, Send, Step, Settle, Finish, Duo}
+use Rattle.run_defs.specs.declared.command.Command.TheVariants.{Provide, Send, Plan, Step, Settle, Finish, Duo}
+use Rattle.run_defs.specs.declared.command.Command.TheVariants.{Pull, Plug, Revoke, Broken}
+use Rattle.run_defs.specs.declared.command.PlanKind.TheVariants.{Pull as PlanPull}
 use Rattle.run_defs.specs.declared.command.StepLine.TheVariants.{Inject, Advance, Lose}
 use Rattle.run_defs.specs.declared.line.MapWords.TheVariants.{Complete}
 use Rattle.run_defs.specs.declared.line.ClientCall.{ClientCall}
@@ -89,6 +91,19 @@ restarting = map Duo
     (DuoEvent.Provide 1 4 ∷ DuoEvent.Send 0 1 65 ∷ DuoEvent.Emit 0 ∷ DuoEvent.Deliver 0 ∷ DuoEvent.Emit 1
     ∷ DuoEvent.Deliver 1 ∷ DuoEvent.Emit 0 ∷ DuoEvent.Restart 1 ∷ DuoEvent.Deliver 2 ∷ DuoEvent.Emit 1
     ∷ DuoEvent.Deliver 3 ∷ DuoEvent.Poll 0 ∷ [])
+
+-- a cable is pulled under a message, and another is plugged in its place
+abbrev pub pulling : List Command
+pulling =
+    Begin 0 0 1 0 ∷ Begin 1 1 0 1 ∷ Provide 1 1 4 0 ∷ Send 0 0 1 1 0 1 7 ∷ Pull (switch_end 0 5) ∷ Pull (host_end 1)
+    ∷ Settle ∷ Broken ∷ Plug (host_end 0) (switch_end 0 5) ∷ Plug (host_end 1) (switch_end 0 5) ∷ Settle
+    ∷ Install 1 ∷ Revoke ∷ Finish ∷ []
+
+-- cables of a fabric that has no routes
+abbrev pub cables_without_routes : List Command
+cables_without_routes =
+    Broken ∷ Revoke ∷ Plug (switch_end 0 3) (switch_end 0 3) ∷ Plug (switch_end 0 3) (switch_end 0 4)
+    ∷ Plan 1 (PlanPull (switch_end 0 3)) ∷ Finish ∷ []
 
 -- the world after the asks of a map, from the first host on
 abbrev pub mapped_world : WorldState

@@ -28,8 +28,8 @@ use Rattle.duo_defs.specs.declared.effect.DuoEffect.TheVariants.{Received as Duo
 use Rattle.fab_text.specs.Fault.{kind_word}
 use Rattle.fab_text.specs.Written.{line_text as line_of}
 use Rattle.world_defs.specs.declared.effect.Cause.{Cause}
-use Rattle.world_defs.specs.declared.effect.Cause.TheVariants.{OutOfRange, NotRoute, NoCable, NewCable, BadCrc, RouteLeft}
-use Rattle.world_defs.specs.declared.effect.Cause.TheVariants.{UnknownType, Malformed, NotMine}
+use Rattle.world_defs.specs.declared.effect.Cause.TheVariants.{OutOfRange, NotRoute, NoCable, NewCable, BadCrc}
+use Rattle.world_defs.specs.declared.effect.Cause.TheVariants.{RouteLeft, UnknownType, Malformed, NotMine}
 use Rattle.world_defs.specs.declared.effect.Said.{Said}
 use Rattle.world_defs.specs.declared.effect.Said.TheVariants.{Done, Count, Token, Sent, Received, Nothing}
 use Rattle.world_defs.specs.declared.effect.Said.TheVariants.{Refused as SaidRefused}
@@ -44,6 +44,8 @@ use Rattle.run_defs.specs.declared.line.MapWords.TheVariants.{Complete, Doubtful
 use Rattle.run_defs.specs.declared.line.InstallCause.{InstallCause}
 use Rattle.run_defs.specs.declared.line.InstallCause.TheVariants.{NoRoutes, Busy as LinksBusy, Changed}
 use Rattle.run_defs.specs.declared.line.InstallCause.TheVariants.{Installed as OtherInstalled, Epochs}
+use Rattle.run_defs.specs.declared.line.PlugWords.{PlugWords}
+use Rattle.run_defs.specs.declared.line.PlugWords.TheVariants.{Done as Joined, PortUsed, Full}
 use Rattle.run_defs.specs.declared.line.ClientCall.{ClientCall}
 use Rattle.run_defs.specs.declared.line.ClientCall.TheVariants.{Begin, Close, Provide, Send, Poll, Tokens as TokensCall}
 use Rattle.run_defs.specs.declared.line.StepWords.{StepWords}
@@ -56,6 +58,7 @@ use Rattle.run_defs.specs.declared.line.Line.TheVariants.{Refused, Walk, Map, Ma
 use Rattle.run_defs.specs.declared.line.Line.TheVariants.{Route, Rank, EndRoutes}
 use Rattle.run_defs.specs.declared.line.Line.TheVariants.{NoMap, Installed, Table, InstallRefused, Client, Tokens}
 use Rattle.run_defs.specs.declared.line.Line.TheVariants.{PlanAt, Step, Settle, Finish, GenHead, GenMap, GenCount, Duo}
+use Rattle.run_defs.specs.declared.line.Line.TheVariants.{Pull, Plug, Revoked, Broken, EndBroken, NoBroken}
 use Rattle.run_defs.specs.Output.{Piece, OneLine, MapLines}
 
 -- a host's name
@@ -227,6 +230,17 @@ duo_words (DuoUnsure t) = codes "unsure" ∷ decimal t ∷ []
 duo_words (DuoReceived t body) = codes "received" ∷ decimal t ∷ hex_text body ∷ []
 duo_words (DuoRestarted inc) = codes "restarted" ∷ decimal inc ∷ []
 
+-- whether a cable was pulled
+abbrev pub pull_words : Bool → List (List ℕ)
+pull_words true = codes "done" ∷ []
+pull_words false = codes "refused" ∷ codes "nocable" ∷ []
+
+-- whether two ports were joined, or why they weren't
+abbrev pub plug_words : PlugWords → List (List ℕ)
+plug_words Joined = codes "done" ∷ []
+plug_words PortUsed = codes "refused" ∷ codes "portused" ∷ []
+plug_words Full = codes "refused" ∷ codes "full" ∷ []
+
 -- The words of a line.
 abbrev pub words_in : Network → Line → List (List ℕ)
 words_in n (Refused line kind) = codes "refused" ∷ decimal line ∷ kind_word kind ∷ []
@@ -265,6 +279,12 @@ words_in n (GenMap words asks packets) = codes "map" ∷ map_words words
     ++ codes "asks" ∷ decimal asks ∷ codes "packets" ∷ decimal packets ∷ []
 words_in n (GenCount accepted received) = codes "messages" ∷ decimal accepted ∷ codes "received" ∷ decimal received ∷ []
 words_in n (Duo did) = codes "duo" ∷ duo_words did
+words_in n (Pull at done) = codes "pull" ∷ end_words n at ++ pull_words done
+words_in n (Plug a b words) = codes "plug" ∷ end_words n a ++ end_words n b ++ plug_words words
+words_in n (Revoked count) = codes "revoked" ∷ decimal count ∷ []
+words_in n (Broken from to) = codes "broken" ∷ host_name n from ∷ host_name n to ∷ []
+words_in n EndBroken = codes "endbroken" ∷ []
+words_in n NoBroken = codes "broken" ∷ codes "refused" ∷ codes "noroutes" ∷ []
 
 -- The text of a line is its words with a space between them, and the byte that ends a line.
 abbrev pub line_text : Network → Line → List ℕ

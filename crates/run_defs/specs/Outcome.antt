@@ -1,11 +1,14 @@
 -- What each command does and prints, where that is determined: all commands but a map that is made, a map of circuit
 -- links, and routes that are computed.
-use Rattle.std.specs.Prelude.{ℕ, Bool, not, ◌&&◌, nat_eq, List, [], ◌∷◌, map, length, min, is_some}
-use Rattle.std.specs.Prelude.{if◌then◌else◌, Option, Some, None, option_map}
-use Rattle.std.specs.List.{range_with_len}
+use Rattle.std.specs.Prelude.{ℕ, Bool, true, false, not, ◌&&◌, nat_eq, nat_lt, List, [], ◌∷◌, ◌++◌, map, length, min}
+use Rattle.std.specs.Prelude.{if◌then◌else◌, Option, Some, None, option_map, is_some}
+use Rattle.std.specs.List.{range_with_len, filter}
 use Rattle.net_defs.specs.declared.vertex.End.{End}
+use Rattle.net_defs.specs.declared.route.Route.{Route}
+use Rattle.net_defs.specs.Building.{cable_refusal}
 use Rattle.net_defs.specs.Route.{place}
 use Rattle.net_defs.specs.Examples.{host_end}
+use Rattle.cable_history.specs.History.{cable_limit}
 use Rattle.cable_history.specs.Crossed.{leaving, life_tail}
 use Rattle.link_defs.specs.Links.{is_idle}
 use Rattle.gm_defs.specs.declared.token.TokenPlace.{TokenPlace}
@@ -16,20 +19,22 @@ use Rattle.duo_defs.specs.Step.{step as duo_step}
 use Rattle.world_defs.specs.declared.event.Event.{Event}
 use Rattle.world_defs.specs.declared.event.Event.TheVariants.{Inject, Advance, Lose, Repeat, Hold, Flip, Replay, Reset}
 use Rattle.world_defs.specs.declared.event.Event.TheVariants.{Expire, GiveUp, Begin, Close, Provide, Send, Poll}
+use Rattle.world_defs.specs.declared.event.Event.TheVariants.{Pull, Plug, Revoke}
 use Rattle.world_defs.specs.declared.effect.Effect.{Effect}
 use Rattle.world_defs.specs.declared.effect.Effect.TheVariants.{Idle, Injected, Moved, Blocked, Arrived, Dropped, Lost}
 use Rattle.world_defs.specs.declared.effect.Effect.TheVariants.{Reset as WasReset, Flipped, Expired, GaveUp, Repeated}
 use Rattle.world_defs.specs.declared.effect.Effect.TheVariants.{Held, Replayed, Staged, Said as SaidSo}
-use Rattle.world_defs.specs.declared.effect.Said.TheVariants.{Refused}
+use Rattle.world_defs.specs.declared.effect.Said.TheVariants.{Done, Refused}
 use Rattle.world_defs.specs.declared.client.ClientCause.TheVariants.{NotOpen}
 use Rattle.world_defs.specs.declared.fault.Fault.{Fault}
 use Rattle.world_defs.specs.declared.fault.Fault.TheVariants.{Lose as LoseFault, Repeat as RepeatFault}
-use Rattle.world_defs.specs.declared.fault.Fault.TheVariants.{Hold as HoldFault, Flip as FlipFault}
+use Rattle.world_defs.specs.declared.fault.Fault.TheVariants.{Hold as HoldFault, Flip as FlipFault, Pull as PullFault}
 use Rattle.world_defs.specs.Table.{Adoption, active_epoch}
 use Rattle.world_defs.specs.Node.{port_at}
 use Rattle.world_defs.specs.World.{WorldState, fabric_of, node_at, planned, epoch_of, first_unrevoked, may_adopt}
-use Rattle.world_defs.specs.World.{adoption_of, adopted_by, last_count}
-use Rattle.world_defs.specs.Step.{step}
+use Rattle.world_defs.specs.World.{adoption_of, adopted_by, last_count, addresses}
+use Rattle.world_defs.specs.Step.{step, steps}
+use Rattle.world_defs.specs.Traffic.{is_broken}
 use Rattle.world_defs.specs.Settle.{unacknowledged_in}
 use Rattle.world_defs.specs.Log.{Log}
 use Rattle.world_defs.specs.Logs as log
@@ -38,10 +43,12 @@ use Rattle.run_defs.specs.declared.command.Command.TheVariants.{Walk, Map, Circu
 use Rattle.run_defs.specs.declared.command.Command.TheVariants.{Begin as BeginCommand}
 use Rattle.run_defs.specs.declared.command.Command.TheVariants.{Close as CloseCommand, Poll as PollCommand, Tokens}
 use Rattle.run_defs.specs.declared.command.Command.TheVariants.{Provide as ProvideCommand, Send as SendCommand, Plan}
-use Rattle.run_defs.specs.declared.command.Command.TheVariants.{Step, Settle, Finish, Duo}
+use Rattle.run_defs.specs.declared.command.Command.TheVariants.{Step, Settle, Finish, Duo, Broken}
+use Rattle.run_defs.specs.declared.command.Command.TheVariants.{Pull as PullCommand, Plug as PlugCommand}
+use Rattle.run_defs.specs.declared.command.Command.TheVariants.{Revoke as RevokeCommand}
 use Rattle.run_defs.specs.declared.command.PlanKind.{PlanKind}
 use Rattle.run_defs.specs.declared.command.PlanKind.TheVariants.{Lose as PlanLose, Repeat as PlanRepeat}
-use Rattle.run_defs.specs.declared.command.PlanKind.TheVariants.{Hold as PlanHold, Flip as PlanFlip}
+use Rattle.run_defs.specs.declared.command.PlanKind.TheVariants.{Hold as PlanHold, Flip as PlanFlip, Pull as PlanPull}
 use Rattle.run_defs.specs.declared.command.StepLine.{StepLine}
 use Rattle.run_defs.specs.declared.command.StepLine.TheVariants.{Inject as InjectLine, GiveUp as GiveUpLine}
 use Rattle.run_defs.specs.declared.command.StepLine.TheVariants.{Advance as AdvanceLine, Lose as LoseLine}
@@ -53,8 +60,13 @@ use Rattle.run_defs.specs.declared.line.Line.TheVariants.{Walk as WalkLine, MapB
 use Rattle.run_defs.specs.declared.line.Line.TheVariants.{InstallRefused, Client, Tokens as TokensLine, PlanAt}
 use Rattle.run_defs.specs.declared.line.Line.TheVariants.{Step as StepOutput, Settle as SettleLine}
 use Rattle.run_defs.specs.declared.line.Line.TheVariants.{Finish as FinishLine, Duo as DuoLine}
+use Rattle.run_defs.specs.declared.line.Line.TheVariants.{Pull as PullLine, Plug as PlugLine, Revoked}
+use Rattle.run_defs.specs.declared.line.Line.TheVariants.{Broken as BrokenLine, EndBroken, NoBroken}
+use Rattle.run_defs.specs.declared.line.PlugWords.{PlugWords}
+use Rattle.run_defs.specs.declared.line.PlugWords.TheVariants.{Done as Joined, PortUsed, Full}
 use Rattle.run_defs.specs.declared.line.InstallCause.{InstallCause}
-use Rattle.run_defs.specs.declared.line.InstallCause.TheVariants.{NoRoutes, Busy, Changed, Installed as OtherInstalled, Epochs}
+use Rattle.run_defs.specs.declared.line.InstallCause.TheVariants.{NoRoutes, Busy, Changed}
+use Rattle.run_defs.specs.declared.line.InstallCause.TheVariants.{Installed as OtherInstalled, Epochs}
 use Rattle.run_defs.specs.declared.line.ClientCall.{ClientCall}
 use Rattle.run_defs.specs.declared.line.ClientCall.TheVariants.{Begin as BeginCall, Close as CloseCall}
 use Rattle.run_defs.specs.declared.line.ClientCall.TheVariants.{Provide as ProvideCall, Send as SendCall}
@@ -154,6 +166,7 @@ fault_of PlanLose = LoseFault
 fault_of PlanRepeat = RepeatFault
 fault_of PlanHold = HoldFault
 fault_of (PlanFlip bit pattern) = FlipFault bit pattern
+fault_of (PlanPull at) = PullFault at
 
 -- a plan prints the number of the injection that it is for
 abbrev pub plan_made : SessionState → ℕ × WorldState → Outcome
@@ -228,6 +241,43 @@ routes_refused s None = Some (says_only s (NoMap ∷ []))
 abbrev pub duo_done : SessionState → DuoEffect × DuoState → Outcome
 duo_done s (effect, d) = record { output = lines (DuoLine effect ∷ []); after = record s { duo = Some d } }
 
+-- an event of a cable, or of a host that gives up its epoch, was possible
+abbrev pub is_done : Effect → Bool
+is_done (SaidSo Done) = true
+is_done _ = false
+
+-- a pull prints whether the port had a cable
+abbrev pub pull_done : SessionState → End → Effect × WorldState → Outcome
+pull_done s at (effect, w) = says s (PullLine at (is_done effect) ∷ []) w
+
+-- two ports are joined unless the fabric as it stands doesn't take a cable there, or all cables were named
+abbrev pub words_of_plug : WorldState → End → End → PlugWords
+words_of_plug w a b =
+    if is_some (cable_refusal (fabric_of w) a b) then PortUsed
+    else if nat_lt (length w.links.cables.wires) cable_limit then Joined
+    else Full
+
+-- a plug prints that the ports were joined, or why they weren't
+abbrev pub plug_done : SessionState → End → End → Effect × WorldState → Outcome
+plug_done s a b (effect, w) = says s (PlugLine a b (words_of_plug s.world a b) ∷ []) w
+
+-- each host gives up the epoch of the adopted routes, by rising address
+abbrev pub revocations : WorldState → List Event
+revocations w = map Revoke (addresses w)
+
+-- that prints how many did
+abbrev pub revoke_done : SessionState → List Effect × WorldState → Outcome
+revoke_done s (effects, w) = says s (Revoked (length (filter is_done effects)) ∷ []) w
+
+-- the adopted routes that cross a cable pulled since the adoption, in their order
+abbrev pub broken_routes : WorldState → Adoption → List Route
+broken_routes w a = filter (λ r. is_broken w r.from r.to) a.routes
+
+-- these are printed, each by its hosts; where no routes are adopted that is refused
+abbrev pub broken_lines : WorldState → Option Adoption → List Line
+broken_lines w None = NoBroken ∷ []
+broken_lines w (Some a) = map (λ r. BrokenLine r.from r.to) (broken_routes w a) ++ EndBroken ∷ []
+
 -- What a command prints, and the session after it, where its session determines them. That leaves out a map that is
 -- made, the map of circuit links, and routes that are computed.
 abbrev pub outcome : SessionState → Command → Option Outcome
@@ -249,3 +299,7 @@ outcome s (Step line) = Some (step_or_idle s (event_of s.world line))
 outcome s Settle = Some (settled s (log.settle s.world))
 outcome s Finish = Some (says_only s (FinishLine s.world.injected s.world.dropped ∷ []))
 outcome s (Duo e) = Some (duo_done s (duo_step (begun s.duo) e))
+outcome s (PullCommand at) = Some (pull_done s at (step s.world (Pull at)))
+outcome s (PlugCommand a b) = Some (plug_done s a b (step s.world (Plug a b)))
+outcome s RevokeCommand = Some (revoke_done s (steps s.world (revocations s.world)))
+outcome s Broken = Some (says_only s (broken_lines s.world s.world.adopted))

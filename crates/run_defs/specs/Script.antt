@@ -18,10 +18,10 @@ use Rattle.fab_text.specs.Fault.{FirstFault, as_kind, at_line, and_then}
 use Rattle.run_defs.specs.declared.command.Command.{Command}
 use Rattle.run_defs.specs.declared.command.Command.TheVariants.{Walk, Map, Circuit, Routes, Install, Begin, Close}
 use Rattle.run_defs.specs.declared.command.Command.TheVariants.{Poll, Tokens, Provide, Send, Plan, Step, Settle, Finish}
-use Rattle.run_defs.specs.declared.command.Command.TheVariants.{Duo}
+use Rattle.run_defs.specs.declared.command.Command.TheVariants.{Duo, Pull, Plug, Revoke, Broken}
 use Rattle.run_defs.specs.declared.command.PlanKind.{PlanKind}
 use Rattle.run_defs.specs.declared.command.PlanKind.TheVariants.{Lose as PlanLose, Repeat as PlanRepeat}
-use Rattle.run_defs.specs.declared.command.PlanKind.TheVariants.{Hold as PlanHold, Flip as PlanFlip}
+use Rattle.run_defs.specs.declared.command.PlanKind.TheVariants.{Hold as PlanHold, Flip as PlanFlip, Pull as PlanPull}
 use Rattle.run_defs.specs.declared.command.StepLine.{StepLine}
 use Rattle.run_defs.specs.declared.command.StepLine.TheVariants.{Inject, GiveUp, Advance, Lose, Repeat, Hold, Reset}
 use Rattle.run_defs.specs.declared.command.StepLine.TheVariants.{Flip, Expire, Replay}
@@ -173,6 +173,29 @@ abbrev pub plan_flip_meant : Network → List Value → Result Command FaultKind
 plan_flip_meant n (Number ahead ∷ Number bit ∷ Number pattern ∷ []) = Ok (Plan ahead (PlanFlip bit pattern))
 plan_flip_meant n _ = Err BadWord
 
+-- `plan pull N V P`
+abbrev pub plan_pull_meant : Network → List Value → Result Command FaultKind
+plan_pull_meant n (Number ahead ∷ Name v ∷ Number p ∷ []) = at_end n v p (λ e. Plan ahead (PlanPull e))
+plan_pull_meant n _ = Err BadWord
+
+-- `pull V P`
+abbrev pub pull_meant : Network → List Value → Result Command FaultKind
+pull_meant n (Name v ∷ Number p ∷ []) = at_end n v p Pull
+pull_meant n _ = Err BadWord
+
+-- two ends of the fabric: both vertices must be there, and then both ports
+abbrev pub two_ends_at : Network → Option Vertex → ℕ → Option Vertex → ℕ → (End → End → Command)
+    → Result Command FaultKind
+two_ends_at n (Some v) p (Some u) q command =
+    and_then (end_at n (Some v) p) (λ a. and_then (end_at n (Some u) q) (λ b. Ok (command a b)))
+two_ends_at n _ p _ q command = Err NoVertex
+
+-- `plug V P W Q`
+abbrev pub plug_meant : Network → List Value → Result Command FaultKind
+plug_meant n (Name v ∷ Number p ∷ Name u ∷ Number q ∷ []) =
+    two_ends_at n (vertex_named n v) p (vertex_named n u) q Plug
+plug_meant n _ = Err BadWord
+
 -- `step inject H`, `step giveup H`
 abbrev pub host_step_meant : (ℕ → StepLine) → Network → List Value → Result Command FaultKind
 host_step_meant line n (Name h ∷ []) = at_host n h (λ a. Step (line a))
@@ -236,6 +259,10 @@ line_kinds =
     ∷ []) send_meant
     ∷ kind (codes "settle") [] (alone_meant Settle)
     ∷ kind (codes "circuit") (OfName ∷ OfNumber 1 32 ∷ []) circuit_meant
+    ∷ kind (codes "pull") (OfName ∷ of_switch_port ∷ []) pull_meant
+    ∷ kind (codes "plug") (OfName ∷ of_switch_port ∷ OfName ∷ of_switch_port ∷ []) plug_meant
+    ∷ kind (codes "revoke") [] (alone_meant Revoke)
+    ∷ kind (codes "broken") [] (alone_meant Broken)
     ∷ []
 
 -- the lines that begin with `plan` and one word more
@@ -245,6 +272,7 @@ plan_kinds =
     ∷ kind (codes "repeat") (of_ahead ∷ []) (plan_meant PlanRepeat)
     ∷ kind (codes "hold") (of_ahead ∷ []) (plan_meant PlanHold)
     ∷ kind (codes "flip") (of_ahead ∷ of_bit ∷ of_pattern ∷ []) plan_flip_meant
+    ∷ kind (codes "pull") (of_ahead ∷ OfName ∷ of_switch_port ∷ []) plan_pull_meant
     ∷ []
 
 -- the lines that begin with `step` and one word more

@@ -16,8 +16,8 @@ pub record LastMap : Type 0 where
   pub made : NetMap
   pub began : ℕ
 
--- The routes that were computed last stand with the mapper of their map, its hosts by address, and the number of changes
--- of cables at which it began.
+-- The routes that were computed last stand with the mapper of their map, its hosts by address, and the number of
+-- changes of cables at which it began.
 pub record LastRoutes : Type 0 where
   pub mapper : ℕ
   pub hosts : List ℕ
@@ -25,8 +25,8 @@ pub record LastRoutes : Type 0 where
   pub began : ℕ
 
 -- What a run holds, and all that a command's acts and lines depend on, as it stands before it: the world; the last map
--- line with its map, and the last routes with the mapper, the hosts and the beginning of their map, where there are any;
--- and the two hosts that restart, once they have begun.
+-- line with its map, and the last routes with the mapper, the hosts and the beginning of their map, where there are
+-- any; and the two hosts that restart, once they have begun.
 pub record SessionState : Type 0 where
   pub world : WorldState
   pub last_map : Option LastMap

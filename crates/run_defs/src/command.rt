@@ -19,6 +19,11 @@ pub enum PlanKind {
         /// A 1 for each bit that is flipped, the greatest first; not 0.
         pattern: u8,
     },
+    /// `plan pull`: the cable at a port is pulled, with the packets on it.
+    Pull {
+        /// The port.
+        at: End,
+    },
 }
 
 /// One event that a script asks for. A channel is named by the end that it leaves.
@@ -166,4 +171,12 @@ pub enum Command {
     Finish,
     /// One event of the two hosts that restart, which are apart from the fabric.
     Duo(DuoEvent),
+    /// Pulls the cable at a port.
+    Pull(End),
+    /// Joins two ports by a new cable.
+    Plug(End, End),
+    /// All hosts give up the epoch of the adopted routes.
+    Revoke,
+    /// Tells which adopted routes cross a cable that was pulled since they were adopted.
+    Broken,
 }

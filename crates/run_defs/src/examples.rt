@@ -1,6 +1,6 @@
 //! Worked examples, computed by the prover: each function's contract is the example, and its body is empty.
 
-ghost use Rattle.std.specs.Prelude.{◌≡◌, [], ◌∷◌, ◌++◌, map, codes, pos, negsuc, Ok, Err};
+ghost use Rattle.std.specs.Prelude.{◌≡◌, [], ◌∷◌, ◌++◌, map, codes, pos, negsuc, true, Ok, Err};
 ghost use Rattle.net_defs.specs.Examples.{two_hosts, host_end, switch_end};
 ghost use Rattle.net_defs.specs.declared.place.Place.{Place};
 ghost use Rattle.world_defs.specs.declared.effect.Said.{Said};
@@ -10,6 +10,7 @@ ghost use Rattle.run_defs.specs.declared.line.Line.{Line};
 ghost use Rattle.run_defs.specs.declared.line.MapWords.{MapWords};
 ghost use Rattle.run_defs.specs.declared.line.ClientCall.{ClientCall};
 ghost use Rattle.run_defs.specs.declared.line.PlaceEntry.{PlaceEntry};
+ghost use Rattle.run_defs.specs.declared.line.PlugWords.{PlugWords};
 ghost use Rattle.fab_text.specs.declared.fault.FaultKind.{FaultKind};
 ghost use Rattle.run_defs.specs.declared.command.PlanKind.{PlanKind};
 ghost use Rattle.run_defs.specs.declared.command.StepLine.{StepLine};
@@ -26,9 +27,10 @@ ghost use Rattle.run_defs.specs.Headline.{HasPrinted, CompleteIsTrue, IsQuiet};
 ghost use Rattle.run_defs.specs.Examples.{mapped_world, mapping, mapping_output, mapped_session, doubtful_world};
 ghost use Rattle.run_defs.specs.Examples.{text_of, printed, fresh, installed_session, setup_map, refused_calls};
 ghost use Rattle.run_defs.specs.Examples.{closing, single_events, message_output, restarting};
+ghost use Rattle.run_defs.specs.Examples.{pulling, cables_without_routes};
 
 /// The texts of some lines.
-#[tactic(auto, using(crate::proofs::Reports::line_at_a_switch, crate::proofs::Reports::line_doubtful, crate::proofs::Reports::line_circuit, crate::proofs::Reports::line_circuit_nodes, crate::proofs::Reports::line_route, crate::proofs::Reports::line_empty_message, crate::proofs::Reports::line_message))]
+#[tactic(auto, using(crate::proofs::Reports::line_at_a_switch, crate::proofs::Reports::line_doubtful, crate::proofs::Reports::line_circuit, crate::proofs::Reports::line_circuit_nodes, crate::proofs::Reports::line_route, crate::proofs::Reports::line_empty_message, crate::proofs::Reports::line_message, crate::proofs::Reports::line_pulled, crate::proofs::Reports::line_full))]
 pub fn texts_of_lines()
     ensures at_a_switch { line_text two_hosts (Line.Walk (Place.Switch 0 2))
         ≡ text_of (codes "walk switch s port 2" ∷ []) }
@@ -45,6 +47,9 @@ pub fn texts_of_lines()
     ensures message { line_text two_hosts (Line.Client ClientCall.Poll 1 1
         (Said.Received 0 0 0 0 (65 ∷ 10 ∷ 254 ∷ [])))
         ≡ text_of (codes "poll b 1 received token 0 from a 0 prio 0 len 3 bytes 410afe" ∷ []) }
+    ensures pulled { line_text two_hosts (Line.Pull (switch_end 0 5) true) ≡ text_of (codes "pull s 5 done" ∷ []) }
+    ensures full { line_text two_hosts (Line.Plug (host_end 1) (switch_end 0 5) PlugWords.Full)
+        ≡ text_of (codes "plug b 0 s 5 refused full" ∷ []) }
 {}
 
 /// The lines of the map of the two hosts.
@@ -99,6 +104,26 @@ pub fn report_of_single_events()
         ∷ codes "poll b 1 received token 1 from a 0 prio 0 len 1 bytes 02" ∷ codes "end injected 71 dropped 59" ∷ []) }
 {}
 
+/// A message waits while a cable is pulled, and while the one in its place is new; both routes stay broken.
+#[tactic(auto, using(crate::proofs::Reports::pulling_text))]
+pub fn report_of_a_pulled_cable()
+    ensures text { printed pulling installed_session
+        ≡ text_of (codes "open a 0 done" ∷ codes "open b 1 done" ∷ codes "provide b 1 token 0"
+        ∷ codes "send a 0 token 0" ∷ codes "pull s 5 done" ∷ codes "pull b 0 refused nocable"
+        ∷ codes "settle rounds 1 resets 0 unacked 1" ∷ codes "broken a b" ∷ codes "broken b a" ∷ codes "endbroken"
+        ∷ codes "plug a 0 s 5 refused portused" ∷ codes "plug b 0 s 5 done"
+        ∷ codes "settle rounds 1 resets 0 unacked 1" ∷ codes "install refused changed" ∷ codes "revoked 2"
+        ∷ codes "end injected 66 dropped 61" ∷ []) }
+{}
+
+/// Without routes nothing is broken and nothing is given up; two ports are joined, and one isn't joined to itself.
+#[tactic(auto, using(crate::proofs::Reports::cables_text))]
+pub fn report_of_cables_without_routes()
+    ensures text { printed cables_without_routes fresh
+        ≡ text_of (codes "broken refused noroutes" ∷ codes "revoked 0" ∷ codes "plug s 3 s 3 refused portused"
+        ∷ codes "plug s 3 s 4 done" ∷ codes "plan at 1" ∷ codes "end injected 0 dropped 0" ∷ []) }
+{}
+
 /// The second of two hosts restarts before a frame comes: the first learns that its message may be lost.
 #[tactic(auto, using(crate::proofs::Reports::restarting_text))]
 pub fn report_of_a_restart()
@@ -125,6 +150,16 @@ pub fn lines_of_scripts()
         ≡ Ok (Command.Step (StepLine.Lose (switch_end 0 5))) }
     ensures restart { command_of two_hosts (codes "duo" ∷ codes "restart" ∷ codes "1" ∷ [])
         ≡ Ok (Command.Duo (DuoEvent.Restart 1)) }
+    ensures pull { command_of two_hosts (codes "pull" ∷ codes "s" ∷ codes "5" ∷ [])
+        ≡ Ok (Command.Pull (switch_end 0 5)) }
+    ensures plug { command_of two_hosts (codes "plug" ∷ codes "b" ∷ codes "0" ∷ codes "s" ∷ codes "5" ∷ [])
+        ≡ Ok (Command.Plug (host_end 1) (switch_end 0 5)) }
+    ensures names_before_ports { command_of two_hosts
+        (codes "plug" ∷ codes "a" ∷ codes "1" ∷ codes "c" ∷ codes "0" ∷ []) ≡ Err FaultKind.NoVertex }
+    ensures plan_pull { command_of two_hosts (codes "plan" ∷ codes "pull" ∷ codes "37" ∷ codes "s" ∷ codes "5" ∷ [])
+        ≡ Ok (Command.Plan 37 (PlanKind.Pull (switch_end 0 5))) }
+    ensures pull_at_none { command_of two_hosts (codes "plan" ∷ codes "pull" ∷ codes "0" ∷ codes "c" ∷ codes "x" ∷ [])
+        ≡ Err FaultKind.TooLarge }
     ensures third_end { command_of two_hosts (codes "duo" ∷ codes "send" ∷ codes "2" ∷ codes "1" ∷ codes "x" ∷ [])
         ≡ Err FaultKind.TooLarge }
     ensures depth_of_none { command_of two_hosts (codes "map" ∷ codes "a" ∷ codes "0" ∷ codes "x" ∷ [])

@@ -8,7 +8,7 @@
 //! | `Session` | what a run holds from command to command |
 //! | `Duos` | the two hosts that restart, as a run holds them |
 //! | `Outcome` | what a command does and prints, where that is determined |
-//! | `Mapped` | what the command `map` does: the asks of a journal that grows, its map, and how far it is known to be right |
+//! | `Mapped` | what `map` does: the asks of a journal that grows, its map, and how far it is known to be right |
 //! | `Circuit` | what the command `circuit` prints: the map of a whole tree of circuit answers |
 //! | `Run` | what commands in order do |
 //! | `LineText` | the text of each line and of a map |
@@ -25,8 +25,10 @@ pub use command::{Command, PlanKind, StepLine};
 pub use duo_defs::{DuoCause, DuoEffect, DuoEvent};
 pub use examples::{
     closing_a_port, lines_of_scripts, map_of_the_two_hosts, promise_of_no_command, quiet_fabrics,
-    refusals, report_of_a_restart, report_of_single_events, summary_of_a_run, text_of_a_map,
-    texts_of_lines, whole_scripts,
+    refusals, report_of_a_pulled_cable, report_of_a_restart, report_of_cables_without_routes,
+    report_of_single_events, summary_of_a_run, text_of_a_map, texts_of_lines, whole_scripts,
 };
 pub use figure::Figure;
-pub use line::{ClientCall, InstallCause, Line, MapWords, PlaceEntry, PlaceList, StepWords};
+pub use line::{
+    ClientCall, InstallCause, Line, MapWords, PlaceEntry, PlaceList, PlugWords, StepWords,
+};

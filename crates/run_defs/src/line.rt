@@ -38,6 +38,17 @@ pub enum InstallCause {
     Epochs,
 }
 
+/// What became of joining two ports.
+#[derive(Clone, Copy, Debug, PartialEq, Eq)]
+pub enum PlugWords {
+    /// `done`: they are joined.
+    Done,
+    /// `refused portused`: a port has a cable, or the two are equal.
+    PortUsed,
+    /// `refused full`: 4,096 cables were named.
+    Full,
+}
+
 /// A call of a client.
 #[derive(Clone, Copy, Debug, PartialEq, Eq)]
 pub enum ClientCall {
@@ -282,4 +293,33 @@ pub enum Line {
     },
     /// `duo EFFECT`: what one event of the two hosts that restart did.
     Duo(DuoEffect),
+    /// `pull V P done`, or `pull V P refused nocable`: the cable at a port was pulled, or the port has none.
+    Pull {
+        /// The port.
+        at: End,
+        /// Whether it had a cable.
+        done: bool,
+    },
+    /// `plug V P W Q done`, or `plug V P W Q refused CAUSE`: two ports were joined, or why they weren't.
+    Plug {
+        /// The one port.
+        a: End,
+        /// The other.
+        b: End,
+        /// Whether they were joined, or why they weren't.
+        words: PlugWords,
+    },
+    /// `revoked N`: so many hosts gave up the epoch of the adopted routes.
+    Revoked(u32),
+    /// `broken A B`: an adopted route crosses a cable that was pulled since the adoption.
+    Broken {
+        /// The address of the sender.
+        from: u16,
+        /// The address of the receiver.
+        to: u16,
+    },
+    /// `endbroken`: the broken routes end.
+    EndBroken,
+    /// `broken refused noroutes`: no routes are adopted.
+    NoBroken,
 }

@@ -10,7 +10,7 @@ use Rattle.cable_history.proofs.Now.{last_is_now}
 use Rattle.act_defs.proofs.Kept.{CablesKept}
 use Rattle.link_defs.specs.Links.{is_idle}
 use Rattle.world_defs.specs.declared.event.Event.{Event}
-use Rattle.world_defs.specs.declared.event.Event.TheVariants.{Begin, Close, Provide, Send, Poll}
+use Rattle.world_defs.specs.declared.event.Event.TheVariants.{Begin, Close, Provide, Send, Poll, Pull, Plug}
 use Rattle.world_defs.specs.declared.effect.Effect.{Effect}
 use Rattle.world_defs.specs.World.{WorldState, fabric_of, new_world, adopted_by}
 use Rattle.world_defs.specs.Step.{step}
@@ -18,7 +18,7 @@ use Rattle.world_defs.specs.Logs as log
 use Rattle.world_defs.specs.Log.{Log}
 use Rattle.world_defs.specs.EightBits.{IsByteEvent}
 use Rattle.run_defs.specs.declared.command.Command.{Command}
-use Rattle.run_defs.specs.declared.command.Command.TheVariants.{Walk, Map, Circuit, Routes, Install, Begin as BeginCommand, Close as CloseCommand, Poll as PollCommand, Tokens, Provide as ProvideCommand, Send as SendCommand, Plan, Step, Settle, Finish, Duo}
+use Rattle.run_defs.specs.declared.command.Command.TheVariants.{Walk, Map, Circuit, Routes, Install, Begin as BeginCommand, Close as CloseCommand, Poll as PollCommand, Tokens, Provide as ProvideCommand, Send as SendCommand, Plan, Step, Settle, Finish, Duo, Pull as PullCommand, Plug as PlugCommand, Revoke as RevokeCommand, Broken}
 use Rattle.run_defs.specs.declared.command.StepLine.{StepLine}
 use Rattle.run_defs.specs.declared.command.StepLine.TheVariants.{Inject, GiveUp, Advance, Lose, Repeat, Hold, Reset, Flip, Expire, Replay}
 use Rattle.run_defs.specs.declared.line.Line.TheVariants.{MapBusy, InstallRefused}
@@ -35,7 +35,7 @@ use Rattle.run_defs.specs.Headline.{IsCommandOf}
 use Rattle.mapping_laws.specs.Runs.{IsSessionOf}
 use Rattle.mapping_laws.specs.Held.{HoldsRight}
 use Rattle.install_laws.proofs.Worlds.{asks-of, settle-of, installed-of}
-use Rattle.mapping_laws.proofs.Sessions.{mapped-stays, does-keep, does-stays, new-session}
+use Rattle.mapping_laws.proofs.Sessions.{revoked-of, mapped-stays, does-keep, does-stays, new-session}
 use Rattle.mapping_laws.proofs.Holding.{can-install, does-hold, new-holds}
 use Rattle.run_laws.specs.Acts.{IsActOf, IsByteStep, RunIsReached, RunHasNoCycle}
 use Rattle.run_laws.proofs.Ranked.{right_routes_are_adoptable}
@@ -151,6 +151,10 @@ outcome-leads n s (Step line) of_n net may = step-leads s (event_of s.world line
 outcome-leads n s Settle of_n net may = (settle-of Leads along-leads s.world, refl)
 outcome-leads n s Finish of_n net may = (leads-same s.world, refl)
 outcome-leads n s (Duo e) of_n net may = (leads-same s.world, refl)
+outcome-leads n s (PullCommand at) of_n net may = (leads-event s.world (Pull at) tt, refl)
+outcome-leads n s (PlugCommand a b) of_n net may = (leads-event s.world (Plug a b) tt, refl)
+outcome-leads n s RevokeCommand of_n net may = (revoked-of Leads along-leads s.world, refl)
+outcome-leads n s Broken of_n net may = (leads-same s.world, refl)
 
 -- a session that a run of such commands leads to
 pub record IsLed (n : Network) (s : SessionState) : Type 0 where

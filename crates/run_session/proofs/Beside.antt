@@ -1,5 +1,5 @@
 -- A session beside the two hosts that restart: other commands pass them by, and their own events leave all else.
-use Rattle.std.proofs.Common.{◌≡◌, [], ◌∷◌, Option, Some, None, refl, sym, ◌∙◌, ap}
+use Rattle.std.proofs.Common.{◌≡◌, [], ◌∷◌, Option, Some, refl, sym, ap}
 use Rattle.duo_defs.specs.declared.event.DuoEvent.{DuoEvent}
 use Rattle.duo_defs.specs.Duo.{DuoState}
 use Rattle.duo_defs.specs.Step.{IsFair, step as duo_step}
@@ -8,10 +8,9 @@ use Rattle.run_defs.specs.declared.command.Command.{Command}
 use Rattle.run_defs.specs.declared.command.Command.TheVariants.{Duo}
 use Rattle.run_defs.specs.declared.line.Line.TheVariants.{Duo as DuoLine}
 use Rattle.run_defs.specs.Duos.{begun, beside, IsOther}
-use Rattle.run_defs.specs.Outcome.{Outcome, outcome}
 use Rattle.run_defs.specs.Output.{OneLine}
 use Rattle.run_defs.specs.Run.{Does}
-use Rattle.run_defs.specs.Session.{SessionState, LastMap, LastRoutes}
+use Rattle.run_defs.specs.Session.{SessionState}
 use Rattle.fab_report.specs.Printed.{PrintedState}
 use Rattle.fab_script.specs.Ranges.{IsDuoOf}
 use Rattle.fab_script.proofs.Ranged.{events_are_fair}
@@ -20,7 +19,6 @@ use Rattle.promise_laws.specs.Duos.{IsDuoLeft}
 use Rattle.promise_laws.specs.Duos.IsDuoLeft.{kept as left_kept, begins as left_new, stepped as left_stepped}
 use Rattle.promise_laws.proofs.CutShort.{cut_unchanged}
 use Rattle.promise_laws.proofs.Duos.{does-beside, cut-beside}
-use Rattle.world_commands.specs.Done.{session_of}
 use Rattle.world_commands.specs.Duos.{IsDuoDone, IsDuoCut}
 use Rattle.world_commands.specs.Duos.IsDuoCut.{kept, begins, stepped}
 use Rattle.run_session.specs.Obeyed.{IsObeyed}

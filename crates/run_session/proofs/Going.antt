@@ -1,15 +1,15 @@
 -- Worlds go on: hosts, switches and the fabric of the past stay, and so does what a session keeps of them.
-use Rattle.std.proofs.Common.{◌≡◌, ◌≤◌, ℕ, Bool, true, false, List, [], ◌∷◌, length, Option, Some, None, refl, sym, ◌∙◌, ap, subst, arith, if◌then◌else◌}
+use Rattle.std.proofs.Common.{◌≡◌, ℕ, true, List, [], ◌∷◌, length, Option, refl, sym, ◌∙◌, ap, subst, arith}
 use Rattle.std.specs.Prelude.{◌<◌, nat_lt}
 use Rattle.std.specs.List.{AllByRecursion}
 use Rattle.net_defs.specs.declared.route.Route.{Route}
 use Rattle.net_defs.specs.declared.vertex.Vertex.TheVariants.{Host}
 use Rattle.net_defs.specs.Network.{Network, has_vertex}
-use Rattle.cable_history.specs.History.{CableHistory, IsHistory, fabric_now, fabric_at}
+use Rattle.cable_history.specs.History.{CableHistory, fabric_at}
 use Rattle.cable_history.specs.Later.{IsLater, OnlyPulled}
 use Rattle.cable_history.proofs.Later.{later-kept, later-past, pulled-later}
 use Rattle.cable_history.proofs.Now.{last_is_now}
-use Rattle.link_defs.specs.Links.{LinkState, empty_links}
+use Rattle.link_defs.specs.Links.{empty_links}
 use Rattle.map_defs.specs.declared.vertex.MapVertex.{MapVertex}
 use Rattle.map_defs.specs.declared.vertex.MapVertex.TheVariants.{Host as MapHost, Switch as MapSwitch}
 use Rattle.map_defs.specs.NetMap.{NetMap}
@@ -21,7 +21,7 @@ use Rattle.world_defs.proofs.Kept.{step-later}
 use Rattle.act_defs.specs.Acts.{Act, Adopts, acted}
 use Rattle.act_defs.proofs.Kept.{acted-kept}
 use Rattle.run_defs.specs.Output.{Piece}
-use Rattle.run_defs.specs.Session.{LastMap, LastRoutes, complete_map}
+use Rattle.run_defs.specs.Session.{LastMap, LastRoutes}
 use Rattle.map_canon.specs.Printing.{IsOfFabric, AreOfFabric}
 use Rattle.fab_report.specs.Printed.{printed_of}
 use Rattle.fab_report.proofs.Names.{printed-named}

@@ -1,6 +1,6 @@
 -- Where memory runs out in a session no refusal is hidden: a refused command lacks only its line's text.
 use Rattle.std.proofs.Common.{◌≡◌, ℕ, List, ◌∷◌, [], true, false, Option, Some, None, option_map, refl, sym, ◌∙◌, ap, if◌then◌else◌}
-use Rattle.std.specs.Prelude.{min, length, map}
+use Rattle.std.specs.Prelude.{min, length}
 use Rattle.link_defs.specs.Links.{is_idle}
 use Rattle.duo_defs.specs.declared.effect.DuoEffect.{DuoEffect}
 use Rattle.duo_defs.specs.declared.event.DuoEvent.{DuoEvent}
@@ -12,12 +12,11 @@ use Rattle.world_defs.specs.Log.{Log}
 use Rattle.world_defs.specs.Logs as log
 use Rattle.run_defs.specs.declared.command.Command.{Command}
 use Rattle.run_defs.specs.declared.command.Command.TheVariants.{Map, Routes, Install, Settle, Duo}
-use Rattle.run_defs.specs.declared.line.Line.{Line}
 use Rattle.run_defs.specs.declared.line.Line.TheVariants.{MapBusy, NoMap, InstallRefused, Installed, Settle as SettleLine, Duo as DuoLine}
 use Rattle.run_defs.specs.declared.line.InstallCause.TheVariants.{NoRoutes, Busy}
 use Rattle.run_defs.specs.Duos.{begun, beside, IsOther}
-use Rattle.run_defs.specs.Output.{OneLine, lines}
-use Rattle.run_defs.specs.Outcome.{Outcome, says_only, settled, table_line, installation, install_done, may_install, refusal_cause, routes_refused, duo_done, outcome}
+use Rattle.run_defs.specs.Output.{OneLine}
+use Rattle.run_defs.specs.Outcome.{Outcome, says_only, settled, installation, install_done, may_install, refusal_cause, routes_refused, duo_done, outcome}
 use Rattle.run_defs.specs.Session.{SessionState, LastMap, LastRoutes, complete_map}
 use Rattle.promise_laws.proofs.Duos.{with-duo, outcome-beside}
 use Rattle.world_commands.specs.declared.out_of_memory.OutOfMemory.{OutOfMemory}

@@ -24,7 +24,7 @@ use fab_report::Printed;
 use fab_world::World;
 use run_defs::Command;
 use std::alloc::Global;
-use world_commands::{OutOfMemory, do_one};
+use world_commands::{OutOfMemory, do_one, revoke};
 
 /// Does a command that makes no map: `map` only where that is refused. Where memory runs out, the world is one that a
 /// prefix of its acts leads to, and a refused command lacks only its line's text.
@@ -58,6 +58,7 @@ pub(crate) fn obey_here(
         Command::Routes => routes(alloc, w, last_map, last_routes),
         Command::Install { tries } => install_text(alloc, w, last_routes, *tries),
         Command::Settle => settle_text(alloc, w),
+        Command::Revoke => revoke(alloc, w),
         Command::Walk { host, walk } => walk_text(alloc, w, links, *host, walk.turns()),
         _ => do_one(alloc, w, c),
     }

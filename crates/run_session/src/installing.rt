@@ -29,8 +29,8 @@ use table_installing::install;
 use world_commands::{OutOfMemory, one_line, print_tables};
 
 /// Installs the last routes, unless that is refused: no routes were computed, a channel holds a packet, a cable was
-/// pulled or plugged since the map of the routes began, a host hasn't given up the epoch of the adopted routes where that
-/// isn't kept, or there is no next one. Running out of memory leaves a world that a prefix of its acts leads to.
+/// pulled or plugged since the map of the routes began, a host hasn't given up the epoch of the adopted routes where
+/// that isn't kept, or there is no next one. Running out of memory leaves a world that a prefix of its acts leads to.
 #[tactic(auto, using(crate::proofs::Going::goes_same))]
 pub(crate) fn install_text(
     alloc: Global,

@@ -14,6 +14,7 @@
 //!   Install, refused       install refused noroutes, busy, changed, installed or epochs
 //!   Install                the last routes --> adopted --> their parts, host by host --> its line, then the tables
 //!   Settle                 a clear, and rounds of sending again --> its line
+//!   Revoke                 an event for each host, which gives up the epoch of the adopted routes --> its line
 //!   Duo                    one event of the two hosts that restart, which are apart from the world --> its line
 //!   all others             at most one event of the world --> its line (`world_commands`)
 //! ```

@@ -41,7 +41,7 @@ pub(crate) fn routes(
 }
 
 // The text of the routes of a complete map, which are the last ones then.
-#[tactic(auto, using(crate::proofs::Obeying::routes_told, crate::proofs::Keeping::kept_last_routes, crate::proofs::Keeping::was_connected, crate::proofs::Keeping::was_few, crate::proofs::Keeping::was_there))]
+#[tactic(auto, using(crate::proofs::ByCommand::routes_kept))]
 fn keep_routes(
     alloc: Global,
     w: &World,

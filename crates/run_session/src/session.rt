@@ -69,8 +69,8 @@ impl Session {
     /// Does a command over its fabric: the session then, and the text of what it printed. Where memory runs out, the
     /// session comes back with a world that a prefix of the command's acts leads to, and with the last map and the last
     /// routes as they were; the two hosts that restart are as they were, or new, where the command is their first
-    /// event, or as it leaves them. A command `circuit` leaves the session as it is. Hosts, switches and the fabric of the
-    /// past stay, whatever a command did to cables. Where memory ran out, [`Session::perform`] says.
+    /// event, or as it leaves them. A command `circuit` leaves the session as it is. Hosts, switches and the fabric of
+    /// the past stay, whatever a command did to cables. Where memory ran out, [`Session::perform`] says.
     pub fn exec(
         self,
         alloc: Global,

@@ -4,8 +4,9 @@ ghost use Rattle.std.specs.Prelude.{◌≡◌, IsErrOf, IsOk};
 ghost use Rattle.fab_text.specs.Line.{words_of};
 ghost use Rattle.fab_text.specs.Fault.{LineGives};
 ghost use Rattle.run_defs.specs.Script.{command_as, command_by, command_of, line_kinds};
-ghost use Rattle.script_lines.specs.Values.{command_but_walk};
+ghost use Rattle.script_lines.specs.Values.{cable_kinds, command_but_walk};
 
+use crate::cable_lines::{broken, plug, pull, revoke};
 use crate::duo_lines::duo;
 use crate::leading::after_keyword;
 use crate::map_lines::{circuit, install, map, routes, settle};
@@ -120,6 +121,23 @@ fn read_by_one_word(fabric: &Fabric, first: &[u8], args: Words) -> Result<Comman
         settle(fabric, args)
     } else if is_keyword(first, b"circuit") {
         circuit(fabric, args)
+    } else {
+        read_of_cables(fabric, first, args)
+    }
+}
+
+// The same of a line of cables or epochs.
+fn read_of_cables(fabric: &Fabric, first: &[u8], args: Words) -> Result<Command, FaultKind>
+    ensures { result ≡ command_by fabric.now cable_kinds first.now (words_of args.entry) }
+{
+    if is_keyword(first, b"pull") {
+        pull(fabric, args)
+    } else if is_keyword(first, b"plug") {
+        plug(fabric, args)
+    } else if is_keyword(first, b"revoke") {
+        revoke(fabric, args)
+    } else if is_keyword(first, b"broken") {
+        broken(fabric, args)
     } else {
         Err(FaultKind::BadWord)
     }

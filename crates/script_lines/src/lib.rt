@@ -15,11 +15,13 @@
 //! | `walk_line` | `walk`, which alone takes memory |
 //! | `map_lines` | `map`, `circuit`, `routes`, `install`, `settle` |
 //! | `port_lines` | `open`, `close`, `poll`, `tokens`, `provide`, `send` |
+//! | `cable_lines` | `pull`, `plug`, `revoke`, `broken` |
 //! | `plan_lines`, `step_lines`, `duo_lines` | `plan`, `step` and `duo`, by their second word |
 //! | `leading` | a keyword with a space after it |
 //! | `counted`, `values` | exactly so many words; what one word says |
 #![tactic(auto)]
 
+mod cable_lines;
 mod command;
 mod counted;
 mod duo_lines;

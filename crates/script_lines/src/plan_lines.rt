@@ -1,15 +1,16 @@
-//! Lines that plan a fault: `plan lose`, `plan repeat`, `plan hold` and `plan flip`. The second word counts with the
-//! first.
+//! Lines that plan a fault: `plan lose`, `plan repeat`, `plan hold`, `plan flip` and `plan pull`. The second word
+//! counts with the first.
 
 ghost use Rattle.std.specs.Prelude.{◌≡◌, ◌∷◌, []};
 ghost use Rattle.fab_text.specs.Line.{words_of};
 ghost use Rattle.fab_text.specs.Fault.{and_then};
-ghost use Rattle.run_defs.specs.Script.{of_ahead, of_bit, of_pattern, said_by, plan_meant, plan_flip_meant, plan_kinds};
-ghost use Rattle.run_defs.specs.Script.{by_second, command_by};
+ghost use Rattle.run_defs.specs.Script.{OfName, of_ahead, of_bit, of_pattern, of_switch_port, said_by, plan_meant};
+ghost use Rattle.run_defs.specs.Script.{plan_flip_meant, plan_pull_meant, plan_kinds, by_second, command_by};
 
 use crate::counted::{one, three};
 use crate::leading::after_keyword;
-use crate::values::{byte, number};
+use crate::step_lines::MAX_PORT;
+use crate::values::{byte, end, name, number};
 use fab_text::{FaultKind, Words, is_keyword};
 use port_graph::Fabric;
 use run_defs::{Command, PlanKind};
@@ -57,6 +58,8 @@ fn plan_by(fabric: &Fabric, second: &[u8], args: Words) -> Result<Command, Fault
         plan_for(fabric, PlanKind::Hold, args)
     } else if is_keyword(second, b"flip") {
         plan_flip(fabric, args)
+    } else if is_keyword(second, b"pull") {
+        plan_pull(fabric, args)
     } else {
         Err(FaultKind::BadWord)
     }
@@ -86,5 +89,21 @@ fn plan_flip(fabric: &Fabric, args: Words) -> Result<Command, FaultKind>
     let bit = number(bit, 0, MAX_BIT)?;
     let pattern = byte(pattern, 1, u8::MAX)?;
     let kind = PlanKind::Flip { bit, pattern };
+    Ok(Command::Plan { ahead, kind })
+}
+
+// `N V P`
+fn plan_pull(fabric: &Fabric, args: Words) -> Result<Command, FaultKind>
+    ensures { result ≡ and_then (said_by (of_ahead ∷ OfName ∷ of_switch_port ∷ []) (words_of args.entry))
+        (plan_pull_meant fabric.now) }
+{
+    let Some((ahead, v, p)) = three(args) else {
+        return Err(FaultKind::BadWord);
+    };
+    let ahead = u64::from(number(ahead, 1, MAX_AHEAD)?);
+    name(v)?;
+    let p = byte(p, 0, MAX_PORT)?;
+    let at = end(fabric, v, p)?;
+    let kind = PlanKind::Pull { at };
     Ok(Command::Plan { ahead, kind })
 }

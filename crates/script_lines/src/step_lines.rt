@@ -16,8 +16,8 @@ use fab_text::{FaultKind, Words, is_keyword};
 use port_graph::Fabric;
 use run_defs::{Command, StepLine};
 
-// The greatest port of a switch.
-const MAX_PORT: u8 = 15;
+/// The greatest port of a switch.
+pub(crate) const MAX_PORT: u8 = 15;
 
 // An event that a host alone names.
 #[derive(Clone, Copy, Debug, PartialEq, Eq)]

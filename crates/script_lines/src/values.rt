@@ -1,6 +1,6 @@
 //! What single words say: names, numbers in a range, hosts and ends of the fabric.
 
-ghost use Rattle.std.specs.Prelude.{◌≡◌, ◌≤◌, IfOk};
+ghost use Rattle.std.specs.Prelude.{◌≡◌, ◌≤◌, Some, IfOk};
 ghost use Rattle.net_defs.specs.Building.{vertex_named};
 ghost use Rattle.fab_text.specs.Word.{u32_of};
 ghost use Rattle.run_defs.specs.Script.{OfName, OfNumber, value_of, address_of, end_at};
@@ -66,8 +66,18 @@ pub(crate) fn end(fabric: &Fabric, name: &[u8], p: u8) -> Result<End, FaultKind>
     ensures { result ≡ end_at fabric.now (vertex_named fabric.now name.now) p }
 {
     match fabric.find(name) {
-        Some(v) if p < fabric.ports(v) => Ok(End { v, p }),
-        Some(_) => Err(FaultKind::PortRange),
+        Some(v) => end_of(fabric, v, p),
         None => Err(FaultKind::NoVertex),
+    }
+}
+
+/// The end of a vertex and a port.
+pub(crate) fn end_of(fabric: &Fabric, v: Vertex, p: u8) -> Result<End, FaultKind>
+    ensures { result ≡ end_at fabric.now (Some v) p }
+{
+    if p < fabric.ports(v) {
+        Ok(End { v, p })
+    } else {
+        Err(FaultKind::PortRange)
     }
 }

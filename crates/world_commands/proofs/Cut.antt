@@ -60,6 +60,13 @@ not-refused s next c l is other r =
     let bad : false ≡ true = sym other ∙ ap is_refusal_line same ∙ r.refuses in
     cc
 
+-- nor is one whose first line isn't a refusal
+pub begun-other : (s : SessionState) (c : Command) (o : Outcome) → outcome s c ≡ Some o → is_refusal_line (first-line o.output) ≡ false → IsRefused s c → ⊥
+begun-other s c o is other r =
+    let printed : o.output ≡ OneLine r.line ∷ [] = ap output-of (sym is ∙ r.prints) in
+    let bad : false ≡ true = sym other ∙ ap is_refusal_line (ap first-line printed) ∙ r.refuses in
+    cc
+
 nothing-printed : (s next : SessionState) (c : Command) → outcome s c ≡ Some (record { output = []; after = next }) → IsRefused s c → ⊥
 nothing-printed s next c is r =
     let printed : [] ≡ OneLine r.line ∷ [] = ap output-of (sym is ∙ r.prints) in

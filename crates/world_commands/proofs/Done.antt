@@ -7,7 +7,7 @@ use Rattle.world_defs.specs.Node.{port_at}
 use Rattle.world_defs.specs.Step.{step}
 use Rattle.world_defs.specs.World.{WorldState, fabric_of, node_at, planned}
 use Rattle.run_defs.specs.declared.command.Command.{Command}
-use Rattle.run_defs.specs.declared.command.Command.TheVariants.{Walk, Map, Circuit, Routes, Install, Begin, Close, Poll, Tokens, Provide, Send, Plan, Step, Settle, Finish, Duo}
+use Rattle.run_defs.specs.declared.command.Command.TheVariants.{Walk, Map, Circuit, Routes, Install, Begin, Close, Poll, Tokens, Provide, Send, Plan, Step, Settle, Finish, Duo, Pull, Plug, Revoke, Broken}
 use Rattle.run_defs.specs.declared.command.PlanKind.{PlanKind}
 use Rattle.run_defs.specs.declared.command.StepLine.{StepLine}
 use Rattle.run_defs.specs.declared.line.ClientCall.{ClientCall}
@@ -80,20 +80,24 @@ pub done_as : (c d : Command) (w v : WorldState) (told : PrintedState) → IsDon
 done_as c d w v told done same = subst (λ x. IsDone x w v told) same done
 
 -- a command that is none of the others is of one event at most
-pub one-event : (c : Command) → ((host : ℕ) (walk : List ℤ) → c ≡ Walk host walk → ⊥) → ((host depth tries : ℕ) → c ≡ Map host depth tries → ⊥) → ((host depth : ℕ) → c ≡ Circuit host depth → ⊥) → (c ≡ Routes → ⊥) → ((tries : ℕ) → c ≡ Install tries → ⊥) → (c ≡ Settle → ⊥) → IsOther c → IsOneEvent c
-one-event (Map host depth tries) w m k r i s o = m host depth tries refl
-one-event (Circuit host depth) w m k r i s o = k host depth refl
-one-event Routes w m k r i s o = r refl
-one-event (Install tries) w m k r i s o = i tries refl
-one-event Settle w m k r i s o = s refl
-one-event (Walk host walk) w m k r i s o = w host walk refl
-one-event (Begin host port sends recvs) w m k r i s o = tt
-one-event (Close host port) w m k r i s o = tt
-one-event (Poll host port) w m k r i s o = tt
-one-event (Tokens host port) w m k r i s o = tt
-one-event (Provide host port size prio) w m k r i s o = tt
-one-event (Send host port dest dport prio len seed) w m k r i s o = tt
-one-event (Plan ahead kind) w m k r i s o = tt
-one-event (Step line) w m k r i s o = tt
-one-event Finish w m k r i s o = tt
-one-event (Duo e) w m k r i s o = absurd (o e refl)
+pub one-event : (c : Command) → ((host : ℕ) (walk : List ℤ) → c ≡ Walk host walk → ⊥) → ((host depth tries : ℕ) → c ≡ Map host depth tries → ⊥) → ((host depth : ℕ) → c ≡ Circuit host depth → ⊥) → (c ≡ Routes → ⊥) → ((tries : ℕ) → c ≡ Install tries → ⊥) → (c ≡ Settle → ⊥) → (c ≡ Revoke → ⊥) → IsOther c → IsOneEvent c
+one-event (Map host depth tries) w m k r i s v o = m host depth tries refl
+one-event (Circuit host depth) w m k r i s v o = k host depth refl
+one-event Routes w m k r i s v o = r refl
+one-event (Install tries) w m k r i s v o = i tries refl
+one-event Settle w m k r i s v o = s refl
+one-event Revoke w m k r i s v o = v refl
+one-event (Walk host walk) w m k r i s v o = w host walk refl
+one-event (Begin host port sends recvs) w m k r i s v o = tt
+one-event (Close host port) w m k r i s v o = tt
+one-event (Poll host port) w m k r i s v o = tt
+one-event (Tokens host port) w m k r i s v o = tt
+one-event (Provide host port size prio) w m k r i s v o = tt
+one-event (Send host port dest dport prio len seed) w m k r i s v o = tt
+one-event (Plan ahead kind) w m k r i s v o = tt
+one-event (Step line) w m k r i s v o = tt
+one-event Finish w m k r i s v o = tt
+one-event (Pull at) w m k r i s v o = tt
+one-event (Plug a b) w m k r i s v o = tt
+one-event Broken w m k r i s v o = tt
+one-event (Duo e) w m k r i s v o = absurd (o e refl)

@@ -1,4 +1,5 @@
 pub mod Answered
+pub mod Cabled
 pub mod Calls
 pub mod Cut
 pub mod Done

@@ -27,7 +27,7 @@ switch-there ports (x ∷ xs) (suc k) p is =
     grind (arith, nat_tests)
 
 -- a vertex with a port is one of the fabric
-port-vertex : (n : Network) (e : End) → has_port n e ≡ true → has_vertex n e.v ≡ true
+pub port-vertex : (n : Network) (e : End) → has_port n e ≡ true → has_vertex n e.v ≡ true
 port-vertex n e is = of e.v is
   where
     host : (h : ℕ) (t : Bool) → nat_lt h (length n.hosts) ≡ t → nat_lt e.p (if t then 1 else 0) ≡ true → nat_lt h (length n.hosts) ≡ true

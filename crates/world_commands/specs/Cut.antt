@@ -7,6 +7,8 @@ use Rattle.world_defs.specs.World.{WorldState}
 use Rattle.run_defs.specs.declared.command.Command.{Command}
 use Rattle.run_defs.specs.declared.line.Line.{Line}
 use Rattle.run_defs.specs.declared.line.Line.TheVariants.{MapBusy, NoMap, InstallRefused, Client}
+use Rattle.run_defs.specs.declared.line.Line.TheVariants.{Pull, Plug, NoBroken}
+use Rattle.run_defs.specs.declared.line.PlugWords.TheVariants.{PortUsed, Full}
 use Rattle.run_defs.specs.Outcome.{Outcome, outcome}
 use Rattle.run_defs.specs.Output.{OneLine}
 use Rattle.run_defs.specs.Session.{SessionState, LastMap, LastRoutes}
@@ -22,6 +24,10 @@ is_refusal_line (MapBusy host) = true
 is_refusal_line NoMap = true
 is_refusal_line (InstallRefused cause) = true
 is_refusal_line (Client call host port said) = is_refusal (Said said)
+is_refusal_line (Pull at false) = true
+is_refusal_line (Plug a b PortUsed) = true
+is_refusal_line (Plug a b Full) = true
+is_refusal_line NoBroken = true
 is_refusal_line _ = false
 
 -- A session refuses a command: what it prints is the one line of a refusal.

@@ -6,6 +6,7 @@ use Rattle.world_defs.specs.World.{WorldState, fabric_of}
 use Rattle.run_defs.specs.declared.command.Command.{Command}
 use Rattle.run_defs.specs.declared.command.Command.TheVariants.{Walk, Map, Circuit, Routes, Install, Begin}
 use Rattle.run_defs.specs.declared.command.Command.TheVariants.{Close, Poll, Tokens, Provide, Send, Settle, Duo}
+use Rattle.run_defs.specs.declared.command.Command.TheVariants.{Pull, Plug, Revoke, Broken}
 use Rattle.run_defs.specs.declared.line.ClientCall.{ClientCall}
 use Rattle.run_defs.specs.Outcome.{called, outcome}
 use Rattle.run_defs.specs.Output.{Piece}
@@ -36,7 +37,7 @@ abbrev pub sending : PortAt → SendRequest → Command
 sending at m = Send at.host at.port m.to.host m.to.port m.prio m.len m.seed
 
 -- a command is of one event of the world at most, and needs nothing else: it takes no walk, it makes no map, no
--- routes, no installation and no settle, and is none of the two hosts that restart
+-- routes, no installation and no settle, it revokes nothing, and is none of the two hosts that restart
 abbrev pub IsOneEvent : Command → Type 0
 IsOneEvent (Walk host walk) = ⊥
 IsOneEvent (Map host depth tries) = ⊥
@@ -44,6 +45,7 @@ IsOneEvent (Circuit host depth) = ⊥
 IsOneEvent Routes = ⊥
 IsOneEvent (Install tries) = ⊥
 IsOneEvent Settle = ⊥
+IsOneEvent Revoke = ⊥
 IsOneEvent (Duo e) = ⊥
 IsOneEvent _ = Unit {0}
 
@@ -60,3 +62,10 @@ IsMessageCommand (Provide host port size prio) = Unit {0}
 IsMessageCommand (Send host port dest dport prio len seed) = Unit {0}
 IsMessageCommand (Poll host port) = Unit {0}
 IsMessageCommand _ = ⊥
+
+-- a command pulls a cable, plugs one, or asks which adopted routes a pull broke
+abbrev pub IsCableCommand : Command → Type 0
+IsCableCommand (Pull at) = Unit {0}
+IsCableCommand (Plug a b) = Unit {0}
+IsCableCommand Broken = Unit {0}
+IsCableCommand _ = ⊥

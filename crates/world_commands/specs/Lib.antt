@@ -1,3 +1,4 @@
+pub mod Broken
 pub mod Cut
 pub mod Done
 pub mod Duos

@@ -5,11 +5,12 @@ ghost use Rattle.cable_history.specs.Later.{IsLater};
 ghost use Rattle.world_defs.specs.World.{fabric_of};
 ghost use Rattle.fab_script.specs.Ranges.{IsCommandOf};
 ghost use Rattle.world_commands.specs.Cut.{IsLeft};
-ghost use Rattle.world_commands.specs.Done.{IsDone, IsOneEvent, IsPortCommand, IsMessageCommand};
+ghost use Rattle.world_commands.specs.Done.{IsDone, IsOneEvent, IsCableCommand, IsPortCommand, IsMessageCommand};
 
 use crate::clients::{close, open, poll, provide, send};
 use crate::out_of_memory::OutOfMemory;
 use crate::places::tokens;
+use crate::remapping::{broken, plug, pull};
 use crate::requests::{PortAt, SendRequest};
 use crate::stepping::step;
 use crate::telling::{finish, plan};
@@ -18,8 +19,8 @@ use fab_world::World;
 use run_defs::Command;
 use std::alloc::Global;
 
-/// Does a command of one event at most, which is no walk: that needs links of its own. Where memory runs out, nothing of
-/// it was done and it isn't refused, or all of it was done but its line.
+/// Does a command of one event at most, which is no walk: that needs links of its own. Where memory runs out, nothing
+/// of it was done and it isn't refused, or all of it was done but its line.
 #[tactic(auto, using(crate::proofs::Done::done_as, crate::proofs::Cut::left_as))]
 pub fn do_one(alloc: Global, w: &mut World, c: &Command) -> Result<Printed, OutOfMemory>
     requires one_event { IsOneEvent c.now }
@@ -32,10 +33,28 @@ pub fn do_one(alloc: Global, w: &mut World, c: &Command) -> Result<Printed, OutO
         Command::Plan { ahead, kind } => plan(alloc, w, *ahead, *kind),
         Command::Step(line) => step(alloc, w, *line),
         Command::Finish => finish(alloc, w),
+        Command::Pull(_) | Command::Plug(_, _) | Command::Broken => do_cable(alloc, w, c),
         Command::Begin { .. } | Command::Close { .. } | Command::Tokens { .. } => {
             do_port(alloc, w, c)
         }
         _ => do_message(alloc, w, c),
+    }
+}
+
+// Pulls a cable, plugs one, or names the adopted routes that a pull broke.
+#[tactic(auto, using(crate::proofs::Done::done_as, crate::proofs::Cut::left_as))]
+fn do_cable(alloc: Global, w: &mut World, c: &Command) -> Result<Printed, OutOfMemory>
+    requires cable { IsCableCommand c.now }
+    requires command { IsCommandOf (fabric_of w.old) c.now }
+    ensures done { IfOk result (λ p. IsDone c.now w.old w.new p) }
+    ensures err { IfErr result (λ e. IsLeft c.now w.old w.new e) }
+    ensures cables { IsLater w.old.links.cables w.new.links.cables }
+{
+    match c {
+        Command::Pull(at) => pull(alloc, w, *at),
+        Command::Plug(a, b) => plug(alloc, w, *a, *b),
+        Command::Broken => broken(alloc, w),
+        _ => unreachable!(),
     }
 }
 

@@ -12,6 +12,8 @@
 //!     provide, send
 //!   tokens                   no event: where each token of a port is; or tokens refused notopen
 //!   step                     one event --> what it did; no event where the port that it names has no cable
+//!   pull, plug, revoke       events of cables, and of all hosts --> whether they were possible, and how many
+//!   broken                   no event: each adopted route that a pull broke; or broken refused noroutes
 //! ```
 //!
 //! | module | has |
@@ -22,6 +24,7 @@
 //! | `answers` | one event of a client, and what it was answered |
 //! | `places` | where each token of a port is |
 //! | `stepping` | a single event, in a report's words |
+//! | `remapping` | a cable pulled or plugged, the revocations of all hosts, and the routes that a pull broke |
 //! | `telling` | a walk, a plan, and the end |
 //! | `doing` | every command of these but a walk |
 //! | `duo_events` | one event of the two hosts that restart, which are apart from the world |
@@ -34,6 +37,7 @@ mod doing;
 mod duo_events;
 mod out_of_memory;
 mod places;
+mod remapping;
 mod requests;
 mod stepping;
 mod tables;
@@ -44,6 +48,7 @@ pub use doing::do_one;
 pub use duo_events::{duo, end_duo};
 pub use out_of_memory::{OutOfMemory, in_line, one_line};
 pub use places::tokens;
+pub use remapping::{broken, plug, pull, revoke};
 pub use requests::{PortAt, SendRequest};
 pub use stepping::step;
 pub use tables::print_tables;

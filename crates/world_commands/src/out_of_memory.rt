@@ -28,6 +28,17 @@ pub fn one_line(alloc: Global, l: Line, f: &Fabric) -> Result<Printed, OutOfMemo
     in_line(Printed::of_line(alloc, l, f))
 }
 
+/// The text of a command's several lines, for which memory may have run out.
+pub(crate) fn in_lines(text: Result<Printed, AllocError>) -> Result<Printed, OutOfMemory>
+    ensures text { IfOk result (λ p. text ≡ Ok p) }
+    ensures err { IfErr result (λ e. e ≡ OutOfMemory.InDoing) }
+{
+    match text {
+        Ok(printed) => Ok(printed),
+        Err(_) => Err(OutOfMemory::InDoing),
+    }
+}
+
 /// The text of a command's one line, for which memory may have run out.
 pub fn in_line(text: Result<Printed, AllocError>) -> Result<Printed, OutOfMemory>
     ensures text { IfOk result (λ p. text ≡ Ok p) }

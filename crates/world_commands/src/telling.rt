@@ -66,6 +66,7 @@ fn fault_of(kind: PlanKind) -> Fault
         PlanKind::Repeat => Fault::Repeat,
         PlanKind::Hold => Fault::Hold,
         PlanKind::Flip { bit, pattern } => Fault::Flip { bit, pattern },
+        PlanKind::Pull { at } => Fault::Pull { at },
     }
 }
 

@@ -12,14 +12,15 @@ if exists('*MyrifabComplete')
 endif
 
 let s:fabric = ['host', 'switch', 'cable', 'script']
-let s:script = ['walk', 'map', 'circuit', 'routes', 'install', 'open', 'provide', 'send', 'poll', 'tokens', 'close', 'plan', 'step', 'duo', 'settle', 'end']
-let s:plans = ['lose', 'repeat', 'hold', 'flip']
+let s:script = ['walk', 'map', 'circuit', 'routes', 'install', 'open', 'provide', 'send', 'poll', 'tokens', 'close', 'plan', 'step', 'duo', 'settle', 'pull', 'plug', 'broken', 'revoke', 'end']
+let s:plans = ['lose', 'repeat', 'hold', 'flip', 'pull']
 let s:duos = ['send', 'provide', 'emit', 'deliver', 'expire', 'poll', 'restart']
 let s:steps = ['inject', 'giveup', 'expire', 'advance', 'lose', 'repeat', 'hold', 'reset', 'flip', 'replay']
 " At which words of a line the names of hosts stand, and those of hosts and switches.
 let s:hosts = {'walk': [1], 'map': [1], 'circuit': [1], 'open': [1], 'provide': [1], 'send': [1, 3], 'poll': [1], 'tokens': [1], 'close': [1]}
 let s:host_steps = {'inject': [2], 'giveup': [2], 'expire': [2, 3]}
 let s:vertex_steps = ['advance', 'lose', 'repeat', 'hold', 'reset', 'flip']
+let s:vertices = {'cable': [1, 3], 'pull': [1], 'plug': [1, 3]}
 
 " The names after the words host and, where they are asked for, switch.
 function! s:Names(kinds) abort
@@ -40,7 +41,7 @@ function! s:Next(words) abort
     return search('^\s*script\s*$', 'bnW') ? s:script : s:fabric
   endif
   let first = a:words[0]
-  if first ==# 'cable' && (at == 1 || at == 3)
+  if index(get(s:vertices, first, []), at) >= 0 || (first ==# 'plan' && at == 3 && a:words[1] ==# 'pull')
     return s:Names(['host', 'switch'])
   elseif first ==# 'switch' && at == 2
     return ['4', '8', '16']

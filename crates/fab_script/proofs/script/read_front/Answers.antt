@@ -13,9 +13,9 @@ lines-preserved c =
     let l : TextLine = record { number = c.in-Some.number; bytes = c.in-Some.line.now; after = c.next_line.new.self.text } in
     record {
       same =
-          part-kept c.args.duos past c.args.f.now (front_part c.args.duos past c.args.f.now (lines_left c.args.left.now)) done c.push.new.self.items
+          part-kept c.args.every past c.args.f.now (front_part c.args.every past c.args.f.now (lines_left c.args.left.now)) done c.push.new.self.items
           (lines_left c.lines.left) (lines_left c.next_line.new.self)
           l command
           c.lines.invariant.same c.in-Some.ensures.lines c.if-is_end.ensures c.in-Ok.ensures.reading pushed;
-      some_sound = λ more. c.lines.invariant.some_sound (sound-command c.args.duos c.args.f.now (lines_left c.lines.left) (lines_left c.next_line.new.self) l c.in-Some.ensures.lines c.if-is_end.ensures (ap is_ok c.in-Ok.ensures.reading));
+      some_sound = λ more. c.lines.invariant.some_sound (sound-command c.args.every c.args.f.now (lines_left c.lines.left) (lines_left c.next_line.new.self) l c.in-Some.ensures.lines c.if-is_end.ensures (ap is_ok c.in-Ok.ensures.reading));
     }

@@ -5,9 +5,9 @@ use Rattle.fab_script.proofs.script.read_front.Given as goal
 
 abbrev pub invariant-lines : goal.invariant-lines
 invariant-lines l = record {
-  same : front_part l.duos (l.past + line_count l.text) l.f (lines_left l.initial.left)
-      ≡ part_after l.commands.items (front_part l.duos (l.past + line_count l.text) l.f (lines_left l.left));
-  some_sound : 0 < length (front_sound l.duos l.f (lines_left l.left)) → 0 < length (front_sound l.duos l.f (lines_left l.initial.left));
+  same : front_part l.every (l.past + line_count l.text) l.f (lines_left l.initial.left)
+      ≡ part_after l.commands.items (front_part l.every (l.past + line_count l.text) l.f (lines_left l.left));
+  some_sound : 0 < length (front_sound l.every l.f (lines_left l.left)) → 0 < length (front_sound l.every l.f (lines_left l.initial.left));
 }
 
 abbrev pub decreases-lines : goal.decreases-lines

@@ -20,7 +20,7 @@ use Rattle.run_session.proofs.Obeying.{done_so}
 use Rattle.run_session.proofs.commands.obey_here.Goals as goal
 
 pub do_one-requires-clause-one_event : goal.do_one-requires-clause-one_event
-do_one-requires-clause-one_event c = one-event c.args.c.now c.in_default.not-Walk c.in_default.not-Map c.in_default.not-Circuit c.in_default.not-Routes c.in_default.not-Install c.in_default.not-Settle c.requires.other
+do_one-requires-clause-one_event c = one-event c.args.c.now c.in_default.not-Walk c.in_default.not-Map c.in_default.not-Circuit c.in_default.not-Routes c.in_default.not-Install c.in_default.not-Settle c.in_default.not-Revoke c.requires.other
 
 pub returns-in-Map-clause-cut : goal.returns-in-Map-clause-cut
 returns-in-Map-clause-cut c = on-any c.busy_text.result (cut_unchanged (session_of c.args.w.now c.args.last_map.now c.args.last_routes.now) c.args.c.now c.args.w.now c.requires.busy refl)
@@ -42,6 +42,27 @@ returns-in-Settle-clause-cut c =
     let s : SessionState = session_of c.args.w.now c.args.last_map.now c.args.last_routes.now in
     subst (λ d. OnErr c.settle_text.result (IsCutShort s d c.settle_text.new.w)) (sym c.in-Settle.is)
     (on-err c.settle_text.result (cut_settled s c.settle_text.new.w) c.settle_text.ensures.err)
+
+pub returns-in-Revoke-clause-cables : goal.returns-in-Revoke-clause-cables
+returns-in-Revoke-clause-cables c = goes-later c.args.w.now c.revoke.new.w c.revoke.ensures.cables
+
+pub returns-in-Revoke-clause-cut : goal.returns-in-Revoke-clause-cut
+returns-in-Revoke-clause-cut c =
+    let w : WorldState = c.args.w.now in
+    let v : WorldState = c.revoke.new.w in
+    let made = c.args.last_map.now in
+    let found = c.args.last_routes.now in
+    if-err-on c.revoke.result (IsLeft c.args.c.now w v) (IsCutShort (session_of w made found) c.args.c.now v) (cut_one w v made found c.args.c.now c.requires.busy)
+    (subst (λ d. IfErr c.revoke.result (λ e. IsLeft d w v e)) (sym c.in-Revoke.is) c.revoke.ensures.err)
+
+pub returns-in-Revoke-clause-unrefused : goal.returns-in-Revoke-clause-unrefused
+returns-in-Revoke-clause-unrefused c =
+    let w : WorldState = c.args.w.now in
+    let v : WorldState = c.revoke.new.w in
+    let made = c.args.last_map.now in
+    let found = c.args.last_routes.now in
+    if-err c.revoke.result (IsLeft c.args.c.now w v) (HidesNoRefusal (session_of w made found) c.args.c.now v) (one-unrefused w v made found c.args.c.now)
+    (subst (λ d. IfErr c.revoke.result (λ e. IsLeft d w v e)) (sym c.in-Revoke.is) c.revoke.ensures.err)
 
 pub returns-in-Walk-clause-cut : goal.returns-in-Walk-clause-cut
 returns-in-Walk-clause-cut c =

@@ -1,4 +1,4 @@
-use Rattle.std.proofs.Common.{◌≡◌, ◌∙◌, List, sym, ap, Some, None}
+use Rattle.std.proofs.Common.{◌≡◌, ◌∙◌, List, sym, ap, Some}
 use Rattle.net_defs.specs.declared.route.Route.{Route}
 use Rattle.world_defs.specs.World.{standing_of}
 use Rattle.run_defs.specs.Session.{LastRoutes}

@@ -2,7 +2,7 @@ use Rattle.std.proofs.Common.{◌≡◌, ◌∙◌, sym, ap, subst, arith}
 use Rattle.std.specs.Prelude.{Option, Some}
 use Rattle.net_defs.specs.Network.{Network}
 use Rattle.cable_history.specs.History.{fabric_at}
-use Rattle.run_defs.specs.Session.{LastMap, LastRoutes}
+use Rattle.run_defs.specs.Session.{LastRoutes}
 use Rattle.world_defs.specs.World.{fabric_of}
 use Rattle.fab_report.specs.Printed.{printed_of}
 use Rattle.world_commands.specs.Done.{session_of}

@@ -1,4 +1,4 @@
-use Rattle.std.proofs.Common.{◌≡◌, ◌∙◌, subst}
+use Rattle.std.proofs.Common.{◌≡◌, subst}
 use Rattle.run_defs.specs.Session.{SessionState}
 use Rattle.promise_laws.specs.Duos.{IsDuoLeft}
 use Rattle.world_commands.specs.Cut.{HidesNoRefusal}

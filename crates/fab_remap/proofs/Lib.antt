@@ -1,0 +1,5 @@
+pub mod Crossing
+pub mod Giving
+pub mod Owned
+pub mod Possible
+pub mod Stopped

@@ -1,0 +1,3 @@
+explain ../../examples/pulled-and-plugged.in ../../examples/pulled-and-plugged.out | sed '/^line 24/,/^line 30/!d; /^line 30/d'
+explain ../../crates/rows/data/map-over-a-new-cable.in ../../crates/rows/data/map-over-a-new-cable.out | grep '#0 is s'
+explain ../../examples/pulled-in-a-map.in ../../examples/pulled-in-a-map.out | tail -n 1
