@@ -45,13 +45,11 @@ pub generated-so : (hosts seed : ℕ) (a : AcceptedText) (n : Network) (s last :
 generated-so hosts seed a n s last figures shown head due accepted counted stay net first same led is = record {
   says = a;
   accepted = accepted;
-  run = record {
-    output = counted.output;
-    run = subst (IsRun a.network a.commands counted.output) (sym led) counted.run;
-    told = summary-named hosts seed a.network s (figures_in counted.output) head due stay
-        (subst (λ k. head ≡ line_text k (GenHead hosts seed (length k.hosts) (length k.switches) (length k.cables))) net first)
-        (is ∙ ap (λ ks. head ++ output_text (fabric_of s.world) (lines (figure_lines ks))) (same ∙ counted.counted));
-  };
+  output = counted.output;
+  run = subst (IsRun a.network a.commands counted.output) (sym led) counted.run;
+  told = summary-named hosts seed a.network s (figures_in counted.output) head due stay
+      (subst (λ k. head ≡ line_text k (GenHead hosts seed (length k.hosts) (length k.switches) (length k.cables))) net first)
+      (is ∙ ap (λ ks. head ++ output_text (fabric_of s.world) (lines (figure_lines ks))) (same ∙ counted.counted));
 }
 
 -- what an answer says where it is `Ok`, from two things that it says

@@ -1,29 +1,20 @@
 -- Injections are left to the end of every accepted text within the limit: it has no more commands than bytes.
-use Rattle.std.proofs.Common.{◌≡◌, ◌<◌, ◌≤◌, ◌+◌, ◌^◌, ◌&&◌, ℕ, zero, suc, Bool, true, false, not, List, [], ◌∷◌, ◌++◌, length, take, drop, Result, Ok, Err, Some, refl, subst, arith, length-append, if◌then◌else◌}
-use Rattle.std.specs.Prelude.{slice_get}
+use Rattle.std.proofs.Common.{◌≡◌, ◌<◌, ◌≤◌, ◌+◌, ◌^◌, ◌&&◌, ℕ, zero, suc, Bool, true, false, not, List, [], ◌∷◌, ◌++◌, length, take, drop, Result, Ok, Err, Some, refl, subst, arith, if◌then◌else◌}
 use Rattle.std.specs.List.{AllByRecursion}
 use Rattle.net_defs.specs.Network.{Network}
-use Rattle.net_defs.proofs.Distinct.{all-push}
-use Rattle.world_defs.specs.World.{last_count}
 use Rattle.fab_text.specs.declared.fault.FaultKind.{FaultKind}
 use Rattle.fab_text.specs.Fault.{FirstFault, and_then, at_line}
 use Rattle.fab_text.specs.Line.{TextLine, is_line_end, is_return, begins_with_end, onto_first_line, lines_from, words_of, says_nothing, saying, line_count}
 use Rattle.fabric_file.specs.declared.reading.FabricText.{FabricText}
 use Rattle.fabric_file.specs.Reading.{fabric_reading}
-use Rattle.fabric_file.proofs.Names.{all-nth}
 use Rattle.run_defs.specs.declared.command.Command.{Command}
 use Rattle.run_defs.specs.declared.command.Command.TheVariants.{Finish}
 use Rattle.run_defs.specs.Script.{command_of, is_end, ended, script_from, script_reading}
-use Rattle.run_defs.specs.Output.{Piece}
-use Rattle.run_defs.specs.Session.{SessionState}
-use Rattle.run_defs.specs.Run.{Does, IsRun}
-use Rattle.run_laws.proofs.RunsOnce.{runs-more}
 use Rattle.fab_script.specs.Ranges.{IsCommandOf as IsSaid}
 use Rattle.run_bounds.proofs.Running.{runs-inject-few}
 use Rattle.input_texts.specs.Reading.{AcceptedText, input_limit, reading_from, reading}
-use Rattle.fabric_run.specs.Promise.{IsPromised}
-use Rattle.fabric_run.specs.Left.{HasInjectionsLeft}
-use Rattle.fabric_run.proofs.Promises.{IsOver, is-over, all-take, text_promised}
+use Rattle.fabric_run.specs.Left.{InjectionsAreLeft}
+use Rattle.fabric_run.proofs.Promises.{IsOver, is-over, all-take}
 
 -- a text has no more lines than bytes
 onto-few : (number b : ℕ) (ls : List TextLine) (k : ℕ) → length ls ≤ k → length (onto_first_line number b ls) ≤ k + 1
@@ -97,39 +88,14 @@ take-few zero xs = omega arith
 take-few (suc k) [] = omega arith
 take-few (suc k) (x ∷ xs) = let h = take-few k xs in omega (arith, h)
 
--- after the first commands, and after the next one
+-- after the first commands
 module _ (text : List ℕ) (a : AcceptedText) (within : length text ≤ input_limit) (e : reading text ≡ Ok a) where
   few : length a.commands ≤ 1048576
   few = let h = commands-few text a e in omega (arith, h, within)
 
-  left-after : (k : ℕ) (out : List Piece) (last : SessionState) → IsRun a.network (take k a.commands) out last → last.world.injected < 2 ^ 63
-  left-after k out last r =
+  pub injections-left : InjectionsAreLeft a
+  injections-left k out last r =
       let o : IsOver a = is-over text a e in
       let cost = runs-inject-few a.network (take k a.commands) out last o.fabric (all-take (IsSaid a.network) k a.commands o.said) r in
       let some = take-few k a.commands in
       omega (arith, cost, some, few)
-
-  left-behind : (k : ℕ) (out printed : List Piece) (s next : SessionState) (c : Command) → IsRun a.network (take k a.commands) out s → slice_get a.commands k ≡ Some c → Does s c printed next → next.world.injected < last_count
-  left-behind k out printed s next c r at does =
-      let o : IsOver a = is-over text a e in
-      let n : Network = a.network in
-      let front : AllByRecursion (IsSaid n) (take k a.commands) = all-take (IsSaid n) k a.commands o.said in
-      let cost = runs-inject-few n (take k a.commands ++ c ∷ []) (out ++ printed) next o.fabric (all-push (IsSaid n) (take k a.commands) c front (all-nth (IsSaid n) a.commands k c o.said at)) (runs-more c printed r does) in
-      let some = take-few k a.commands in
-      let long = length-append (take k a.commands) (c ∷ []) in
-      omega (arith, cost, some, long, few)
-
-  pub injections-left : HasInjectionsLeft a
-  injections-left =
-      let p : IsPromised a = text_promised text a e in
-      record {
-        left = left-after;
-        doubtful = λ k out rest s next host depth tries drowned asks packets r at does. p.doubtful k out rest s next host depth tries drowned asks packets r at does (left-behind k out _ s next _ r at does);
-        missed = λ k out rest s next tries acked total r at does.
-            let low = left-behind k out _ s next _ r at does in
-            let line = p.installed k out rest s next tries acked total r at does in
-            (line.last, line.are, line.cause low, λ same calm. p.unharmed k out rest s next tries acked total r at does low same calm);
-        settled = λ k out rest s next rounds resets unacked r at does.
-            let low = left-behind k out _ s next _ r at does in
-            ((p.settled k out rest s next rounds resets unacked r at does).settled low, λ enough paths. p.delivered k out rest s next rounds resets unacked r at does low enough paths);
-      }

@@ -1,7 +1,9 @@
 pub mod Counting
 pub mod Duos
 pub mod Endings
+pub mod Following
+pub mod Lefts
 pub mod Naming
 pub mod Promises
+pub mod Told
 pub mod Writing
-pub mod Lefts

@@ -17,12 +17,12 @@ use Rattle.run_defs.specs.declared.line.Line.TheVariants.{GenHead}
 use Rattle.run_defs.specs.LineText.{line_text, output_text}
 use Rattle.run_defs.specs.Output.{Piece, lines}
 use Rattle.run_defs.specs.Session.{SessionState}
+use Rattle.run_defs.specs.Summary.{summary}
 use Rattle.fab_report.specs.Printed.{PrintedState, figure_lines}
 use Rattle.fab_report.proofs.Names.{printed-named}
 use Rattle.promise_laws.specs.OneAction.{VerticesStay}
 use Rattle.fab_script.specs.Ranges.{IsEnd, IsPlanned, IsStepOf, IsCommandOf}
 use Rattle.fabric_run.specs.Ends.{HasVerticesOf}
-use Rattle.fabric_run.specs.Generated.{IsSummaryOf}
 
 -- hosts and switches stay, command after command
 pub on-vertices : (n : Network) (s next : SessionState) → HasVerticesOf n s → VerticesStay s.world next.world → HasVerticesOf n next
@@ -34,7 +34,7 @@ output-named n s out same = ap (λ (p : PrintedState). p.text) (printed-named (f
 
 -- the summary of a run that began with a fabric: its first line is of that, and its other lines are in the same names
 pub summary-named : (hosts seed : ℕ) (n : Network) (s : SessionState) (figures : List Figure) (head due : List ℕ) → HasVerticesOf n s
-    → head ≡ line_text n (GenHead hosts seed (length n.hosts) (length n.switches) (length n.cables)) → due ≡ head ++ output_text (fabric_of s.world) (lines (figure_lines figures)) → IsSummaryOf hosts seed n figures due
+    → head ≡ line_text n (GenHead hosts seed (length n.hosts) (length n.switches) (length n.cables)) → due ≡ head ++ output_text (fabric_of s.world) (lines (figure_lines figures)) → due ≡ output_text n (lines (summary hosts seed n figures))
 summary-named hosts seed n s figures head due same first is =
     let rest : List Piece = lines (figure_lines figures) in
     is ∙ ap (λ t. t ++ output_text (fabric_of s.world) rest) first

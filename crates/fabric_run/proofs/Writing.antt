@@ -21,7 +21,7 @@ use Rattle.promise_laws.specs.Duos.{IsDuoLeft}
 use Rattle.promise_laws.specs.Existence.{HasRun}
 use Rattle.run_session.specs.Obeyed.{IsObeyed}
 use Rattle.input_texts.specs.Reading.{AcceptedText}
-use Rattle.fabric_run.specs.Ends.{HasVerticesOf, HaveRun, IsPartOfReport, IsReported, IsCutOff, IsInterrupted}
+use Rattle.fabric_run.specs.Ends.{HasVerticesOf, HaveRun, HaveRunUpTo, IsPartOfReport, IsCutOff, IsInterrupted}
 use Rattle.fabric_run.proofs.Naming.{output-named}
 
 -- a count that rose since a later moment rose
@@ -72,42 +72,42 @@ more-ran n cs i taken between now s next c p low at ran same does took = record 
       (Appends-trans taken between now (output_text n ran.output) p.text ran.took took);
 }
 
--- one command more ran, and the front of its text was taken
-pub cut-ran : (n : Network) (cs : List Command) (i : ℕ) (taken between now : Option (List ℕ)) (s next : SessionState) (c : Command) (p : PrintedState) → i < length cs → c ≡ get_or cs i c
-    → HaveRun n (take i cs) taken between s → HasVerticesOf n s → IsObeyed s c next p → TakesProperPrefix between now p.text
-    → IsCutOff (record { network = n; commands = cs }) taken now (Some next)
-cut-ran n cs i taken between now s next c p low at ran same does took =
-    let run : Runs (new_session n) (take (suc i) cs) (ran.output ++ does.output) next =
-    subst (λ l. Runs (new_session n) l (ran.output ++ does.output) next) (sym (take-one cs i c low at)) (runs-more c does.output ran.run does.does) in
-    let own : output_text n does.output ≡ took.0 ++ took.1 = sym (output-named n s does.output same) ∙ sym (ap (λ (q : PrintedState). q.text) does.printed) ∙ took.2 in
-    let front : Appends taken now (output_text n ran.output ++ took.0) = Appends-trans taken between now (output_text n ran.output) took.0 ran.took took.4 in
-    record {
-      count = i;
-      between = s;
-      last = next;
-      before = ran.output;
-      own = does.output;
-      run_before = ran.run;
-      run = run;
-      took = (took.0, took.1, own, took.3, front);
-      hands_back = refl;
-    }
-
 -- the next command, by its place
 some-at : {X : Type 0} (xs : List X) (i : ℕ) (x : X) → i < length xs → x ≡ get_or xs i x → slice_get xs i ≡ Some x
 some-at [] i x h e = absurd (omega arith)
 some-at (y ∷ ys) zero x h e = ap Some (sym e)
 some-at (y ∷ ys) (suc i) x h e = some-at ys i x (omega arith) e
 
+-- the commands before it ran
+pub up-to : (n : Network) (cs : List Command) (i : ℕ) (taken now : Option (List ℕ)) (s : SessionState) (c : Command) → i < length cs → c ≡ get_or cs i c → HaveRun n (take i cs) taken now s
+    → HaveRunUpTo (record { network = n; commands = cs }) c taken now s
+up-to n cs i taken now s c low at ran = record { count = i; is_next = some-at cs i c low at; ran = ran }
+
+-- one command more ran, and the front of its text was taken
+pub cut-ran : (n : Network) (cs : List Command) (i : ℕ) (taken between now : Option (List ℕ)) (s next : SessionState) (c : Command) (p : PrintedState) → i < length cs → c ≡ get_or cs i c
+    → HaveRun n (take i cs) taken between s → HasVerticesOf n s → IsObeyed s c next p → TakesProperPrefix between now p.text
+    → IsCutOff (record { network = n; commands = cs }) taken now next
+cut-ran n cs i taken between now s next c p low at ran same does took = record {
+  command = c;
+  session = s;
+  middle = between;
+  before = up-to n cs i taken between s c low at ran;
+  output = does.output;
+  does = does.does;
+  took = subst (TakesProperPrefix between now) (ap (λ (q : PrintedState). q.text) does.printed ∙ output-named n s does.output same) took;
+}
+
 -- memory ran out for a command after the first ones
 pub interrupted : (n : Network) (cs : List Command) (i : ℕ) (taken now : Option (List ℕ)) (s t : SessionState) (c : Command) → i < length cs → c ≡ get_or cs i c → HaveRun n (take i cs) taken now s
-    → IsCutShort s c t.world → t.last_map ≡ s.last_map → t.last_routes ≡ s.last_routes → IsDuoLeft s c t.duo → IsInterrupted (record { network = n; commands = cs }) taken now (Some t)
+    → IsCutShort s c t.world → t.last_map ≡ s.last_map → t.last_routes ≡ s.last_routes → IsDuoLeft s c t.duo → IsInterrupted (record { network = n; commands = cs }) taken now t
 interrupted n cs i taken now s t c low at ran cut made found duo = record {
-  count = i;
-  last = s;
-  ran = ran;
-  hands_back = record { command = c; next = some-at cs i c low at; cut = cut; map_stays = made; routes_stay = found; duo_left = duo };
-  none_ran = tt;
+  command = c;
+  session = s;
+  before = up-to n cs i taken now s c low at ran;
+  cut = cut;
+  map_stays = made;
+  routes_stay = found;
+  duo_left = duo;
 }
 
 -- what first commands printed begins as what all commands print does
@@ -125,38 +125,34 @@ part-of-all a r k taken now s out part rest run e took =
       ),
     )
 
+-- one more command, by its place
+pub take-next : {X : Type 0} (xs : List X) (i : ℕ) (x : X) → slice_get xs i ≡ Some x → take (suc i) xs ≡ take i xs ++ x ∷ []
+take-next [] i x e = cc
+take-next (y ∷ ys) zero x e = let same : y ≡ x = cc in ap (λ z. z ∷ []) same
+take-next (y ∷ ys) (suc i) x e = ap (λ zs. y ∷ zs) (take-next ys i x e)
+
 -- a prefix of the report was taken before a failed write
-pub cut-part : (a : AcceptedText) (r : HasRun a.network a.commands) (taken now : Option (List ℕ)) (held : Option SessionState) → IsCutOff a taken now held → IsPartOfReport a taken now
-cut-part a r taken now held k =
+pub cut-part : (a : AcceptedText) (taken now : Option (List ℕ)) (last : SessionState) → HasRun a.network a.commands → IsCutOff a taken now last → IsPartOfReport a taken now
+cut-part a taken now last r k =
     let n : Network = a.network in
-    let first : List ℕ = output_text n k.before in
-    let whole : output_text n (k.before ++ k.own) ≡ (first ++ k.took.0) ++ k.took.1 =
-    text_of_both n k.before k.own ∙ ap (λ l. first ++ l) k.took.2 ∙ sym (append_assoc first k.took.0 k.took.1) in
-    part-of-all a r (suc k.count) taken now k.last (k.before ++ k.own) (first ++ k.took.0) k.took.1 k.run whole k.took.4
+    let b = k.before in
+    let first : List ℕ = output_text n b.ran.output in
+    let run : IsRun n (take (suc b.count) a.commands) (b.ran.output ++ k.output) last =
+    subst (λ l. IsRun n l (b.ran.output ++ k.output) last) (sym (take-next a.commands b.count k.command b.is_next)) (runs-more k.command k.output b.ran.run k.does) in
+    let whole : output_text n (b.ran.output ++ k.output) ≡ (first ++ k.took.0) ++ k.took.1 =
+    text_of_both n b.ran.output k.output ∙ ap (λ l. first ++ l) k.took.2 ∙ sym (append_assoc first k.took.0 k.took.1) in
+    part-of-all a r (suc b.count) taken now last (b.ran.output ++ k.output) (first ++ k.took.0) k.took.1 run whole (Appends-trans taken k.middle now first k.took.0 b.ran.took k.took.4)
 
 -- and before memory ran out
-pub interrupted-part : (a : AcceptedText) (r : HasRun a.network a.commands) (taken now : Option (List ℕ)) (held : Option SessionState) → IsInterrupted a taken now held → IsPartOfReport a taken now
-interrupted-part a r taken now held k =
-    let printed : List ℕ = output_text a.network k.ran.output in
-    part-of-all a r k.count taken now k.last k.ran.output printed [] k.ran.run (sym (append-nil printed)) k.ran.took
-
--- before the first command
-pub unstarted : (a : AcceptedText) (taken : Option (List ℕ)) → IsInterrupted a taken taken None
-unstarted a taken = record {
-  count = 0;
-  last = new_session a.network;
-  ran = none-ran a.network a.commands taken (new_session a.network) refl;
-  hands_back = tt;
-  none_ran = refl;
-}
+pub interrupted-part : (a : AcceptedText) (taken now : Option (List ℕ)) (left : SessionState) → HasRun a.network a.commands → IsInterrupted a taken now left → IsPartOfReport a taken now
+interrupted-part a taken now left r k =
+    let ran = k.before.ran in
+    let printed : List ℕ = output_text a.network ran.output in
+    part-of-all a r k.before.count taken now k.session ran.output printed [] ran.run (sym (append-nil printed)) ran.took
 
 -- all commands ran
-pub all-ran : (n : Network) (cs : List Command) (i : ℕ) (taken now : Option (List ℕ)) (s : SessionState) → length cs ≤ i → HaveRun n (take i cs) taken now s → IsReported (record { network = n; commands = cs }) taken now (Some s)
-all-ran n cs i taken now s e ran = record {
-  last = s;
-  ran = subst (λ l. HaveRun n l taken now s) (take-all cs i e) ran;
-  hands_back = refl;
-}
+pub all-ran : (n : Network) (cs : List Command) (i : ℕ) (taken now : Option (List ℕ)) (s : SessionState) → length cs ≤ i → HaveRun n (take i cs) taken now s → HaveRun n cs taken now s
+all-ran n cs i taken now s e ran = subst (λ l. HaveRun n l taken now s) (take-all cs i e) ran
   where
     take-all : {X : Type 0} (xs : List X) (i : ℕ) → length xs ≤ i → take i xs ≡ xs
     take-all [] zero h = refl

@@ -1,8 +1,7 @@
 -- How a generated run ends.
 use Rattle.std.specs.Prelude.{◌≡◌, ℕ, List, ◌++◌, Option, Some, None}
-use Rattle.std.specs.Io.KnownBytes.{Appends, Keeps}
+use Rattle.std.specs.Io.KnownBytes.{Appends}
 use Rattle.net_defs.specs.Network.{Network}
-use Rattle.fab_outer.specs.Fault.{Rose}
 use Rattle.fab_outer.specs.Whole.{TakesProperPrefix}
 use Rattle.run_defs.specs.declared.command.Command.{Command}
 use Rattle.run_defs.specs.declared.figure.Figure.{Figure}
@@ -30,43 +29,27 @@ pub record HaveCounted (n : Network) (commands : List Command) (figures : List F
   pub run : IsRun n commands output last
   pub counted : figures ≡ figures_in output
 
--- This is the summary of figures, for so many hosts and a seed, with the names of a fabric.
-abbrev pub IsSummaryOf : ℕ → ℕ → Network → List Figure → List ℕ → Type 0
-IsSummaryOf hosts seed n figures due = due ≡ output_text n (lines (summary hosts seed n figures))
-
--- The run of what a text says: all its commands ran and led to this session, and this is the summary of what they
--- printed, for so many hosts and a seed.
-pub record IsRunOf (a : AcceptedText) (hosts seed : ℕ) (due : List ℕ) (last : SessionState) : Type 0 where
-  pub output : List Piece
-  pub run : IsRun a.network a.commands output last
-  pub told : IsSummaryOf hosts seed a.network (figures_in output) due
-
--- The run of the text of so many hosts and a seed: the text is accepted, and this is the summary of its run.
+-- The run of the text of so many hosts and a seed: the text is accepted, all its commands ran and led to this session,
+-- and this is the summary of what they printed.
 pub record IsGenerated (hosts seed : ℕ) (due : List ℕ) (last : SessionState) : Type 0 where
   pub says : AcceptedText
   pub accepted : IsAccepted (gen_text hosts seed) says
-  pub run : IsRunOf says hosts seed due last
+  pub output : List Piece
+  pub run : IsRun says.network says.commands output last
+  pub told : due ≡ output_text says.network (lines (summary hosts seed says.network (figures_in output)))
 
--- How the writing of a summary may end: the session after all commands is handed back.
-abbrev pub SummaryEnds : List ℕ → SessionState → Option (List ℕ) → Option (List ℕ) → ℕ → ℕ → Status
-    → Option SessionState → Type 0
-SummaryEnds due last taken now faults risen Done held = Appends taken now due × (held ≡ Some last)
-SummaryEnds due last taken now faults risen WriteFault held =
-    Rose faults risen × TakesProperPrefix taken now due × (held ≡ Some last)
-SummaryEnds due last taken now faults risen _ held = ⊥
+-- a text was written: the whole, or a prefix of it, but not all, before a failed write
+abbrev pub IsWritten : List ℕ → Option (List ℕ) → Option (List ℕ) → Status → Type 0
+IsWritten due taken now Done = Appends taken now due
+IsWritten due taken now WriteFault = TakesProperPrefix taken now due
+IsWritten due taken now _ = ⊥
 
--- A generated run that was written, or whose summary was cut off.
-pub record IsSummed (hosts seed : ℕ) (taken now : Option (List ℕ)) (faults risen : ℕ) (status : Status)
-    (held : Option SessionState) : Type 0 where
-  pub due : List ℕ
-  pub last : SessionState
-  pub generated : IsGenerated hosts seed due last
-  pub written : SummaryEnds due last taken now faults risen status held
-
--- How a run of the form `gen` may end: the whole summary was taken, or a prefix before a failed write, and not all of
--- it; where memory ran out, nothing, and no session is handed back.
-abbrev pub GenEnds : ℕ → ℕ → Option (List ℕ) → Option (List ℕ) → ℕ → ℕ → Status → Option SessionState → Type 0
-GenEnds hosts seed taken now faults risen Done held = IsSummed hosts seed taken now faults risen Done held
-GenEnds hosts seed taken now faults risen WriteFault held = IsSummed hosts seed taken now faults risen WriteFault held
-GenEnds hosts seed taken now faults risen NoMemory held = Keeps taken now × (held ≡ None)
-GenEnds hosts seed taken now faults risen _ held = ⊥
+-- How a run of the form `gen` may end: the whole summary was taken, or a prefix of it, but not all, before a failed
+-- write, and the session after all commands is handed back; or memory ran out, and nothing was written.
+abbrev pub GenEnds : ℕ → ℕ → Type 0 → Option (List ℕ) → Option (List ℕ) → Status → Option SessionState → Type 0
+GenEnds hosts seed unwritten taken now Done (Some last) =
+    (due : List ℕ) × IsGenerated hosts seed due last × Appends taken now due
+GenEnds hosts seed unwritten taken now WriteFault (Some last) =
+    (due : List ℕ) × IsGenerated hosts seed due last × TakesProperPrefix taken now due
+GenEnds hosts seed unwritten taken now NoMemory None = unwritten
+GenEnds hosts seed unwritten taken now _ _ = ⊥

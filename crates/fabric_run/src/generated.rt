@@ -1,17 +1,18 @@
 //! The run of a generated text, and its summary.
 
-ghost use Rattle.std.specs.Prelude.{◌≡◌, ◌≤◌, ◌++◌, IfOk, OnOk};
+ghost use Rattle.std.specs.Prelude.{◌≡◌, ◌≤◌, ◌++◌, IfOk, OnOk, Some};
 ghost use Rattle.std.specs.List.{AllByRecursion};
 ghost use Rattle.world_defs.specs.World.{fabric_of};
 ghost use Rattle.run_defs.specs.Session.{new_session};
 ghost use Rattle.run_defs.specs.LineText.{output_text};
 ghost use Rattle.run_defs.specs.Output.{lines};
+ghost use Rattle.fab_outer.specs.Fault.{Rose};
 ghost use Rattle.fab_report.specs.Printed.{listed, figure_lines};
 ghost use Rattle.fab_script.specs.Ranges.{IsCommandOf};
 ghost use Rattle.promise_laws.specs.OneAction.{VerticesStay};
 ghost use Rattle.fabric_run.specs.Ends.{HasVerticesOf};
 ghost use Rattle.fabric_run.specs.Generated.{IsCounted, HaveCounted, IsGenerated};
-ghost use Rattle.fabric_run.specs.Generated.{SummaryEnds, GenEnds};
+ghost use Rattle.fabric_run.specs.Generated.{IsWritten, GenEnds};
 
 use crate::ran::Ran;
 use crate::status::Status;
@@ -26,8 +27,9 @@ pub(crate) fn run_generated<K: Sink>(alloc: Global, n: u8, seed: u32, out: &mut 
     requires some { 2 ≤ n }
     requires few { n ≤ 24 }
     requires seed { seed ≤ 1000000 }
-    ensures ends { GenEnds n seed (K.taken out.old) (K.taken out.new) (K.faults out.old)
-        (K.faults out.new) result.status result.session }
+    ensures ends { GenEnds n seed (out.new ≡ out.old) (K.taken out.old) (K.taken out.new)
+        result.status result.session }
+    ensures write_fault { result.status ≡ Status.WriteFault → Rose (K.faults out.old) (K.faults out.new) }
     ensures later { K.faults out.old ≤ K.faults out.new }
 {
     match run_text(alloc, n, seed) {
@@ -148,8 +150,9 @@ fn push_figure(figure: Option<Figure>, figures: &mut Vec<Figure>) -> Result<(), 
 
 // Writes a summary.
 fn write_summary<K: Sink>(session: Session, summary: &[u8], out: &mut K) -> Ran
-    ensures ends { SummaryEnds summary.now session (K.taken out.old) (K.taken out.new) (K.faults out.old)
-        (K.faults out.new) result.status result.session }
+    ensures written { IsWritten summary.now (K.taken out.old) (K.taken out.new) result.status }
+    ensures session { result.session ≡ Some session }
+    ensures write_fault { result.status ≡ Status.WriteFault → Rose (K.faults out.old) (K.faults out.new) }
     ensures later { K.faults out.old ≤ K.faults out.new }
 {
     match write_all(out, summary) {

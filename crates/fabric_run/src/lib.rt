@@ -2,7 +2,8 @@
 //!
 //! `run` reads a fabric and a script, makes one session, and lets it do each command. It makes no source and no sink:
 //! `myrifab` does; nor does it say what words ask for and what a text says: `input_texts` does. `specs/Ends.antt` and
-//! `specs/Generated.antt` say how a run may end, `specs/Promise.antt` what every accepted text promises.
+//! `specs/Generated.antt` say how a run may end, `specs/Promise.antt` what every accepted text promises, and
+//! `specs/Lines.antt` what is true of its lines.
 //!
 //! ```text
 //!   words -> text -> fabric and commands -> session -> command -> its text -> sink
@@ -16,7 +17,7 @@
 //! |---|---|
 //! | `top` | `run`, and how it ends |
 //! | `generated` | the run of a generated text, and its summary |
-//! | `promise` | what every accepted text promises |
+//! | `promise` | what every accepted text promises, and what follows |
 //! | `status`, `ran` | how a run ended, and what it hands back |
 #![tactic(auto)]
 
@@ -26,6 +27,7 @@ mod ran;
 mod status;
 mod top;
 
+pub use promise::what_promises_imply;
 pub use ran::Ran;
 pub use run_session::{OutOfMemory, Session, World};
 pub use status::Status;

@@ -1,9 +1,13 @@
-//! What every accepted text promises: `specs/Promise.antt` and `specs/Left.antt` have the statements.
+//! What every accepted text promises, and what follows from that: `specs/Promise.antt`, `specs/Left.antt` and
+//! `specs/Following.antt` have the statements.
 
-ghost use Rattle.std.specs.Prelude.{ℕ, ◌≤◌, List, length};
+ghost use Rattle.std.specs.Prelude.{ℕ, ◌≤◌, List, length, Option};
+ghost use Rattle.run_defs.specs.Session.{SessionState};
 ghost use Rattle.input_texts.specs.Reading.{AcceptedText, IsAccepted, input_limit};
+ghost use Rattle.fabric_run.specs.Ends.{IsCutOff, IsInterrupted, IsPartOfReport};
+ghost use Rattle.fabric_run.specs.Following.{HasSoundMoments, HasMetFaults};
 ghost use Rattle.fabric_run.specs.Promise.{IsPromised};
-ghost use Rattle.fabric_run.specs.Left.{HasInjectionsLeft};
+ghost use Rattle.fabric_run.specs.Left.{InjectionsAreLeft};
 
 /// Every accepted text keeps its promise, whatever becomes of its run.
 pub(crate) fn promised_texts()
@@ -13,5 +17,18 @@ pub(crate) fn promised_texts()
 /// Every accepted text that an input may have leaves injections to its end.
 pub(crate) fn left_injections()
     ensures { (text : List ℕ) (a : AcceptedText) → length text ≤ input_limit → IsAccepted text a
-        → HasInjectionsLeft a }
+        → InjectionsAreLeft a }
+{}
+
+/// What follows from a text's promise, which [`crate::run`] states: the world is sound after its first commands and
+/// where memory ran out for the next one, and so are the two hosts that restart; where injections are left, maps are
+/// doubtful and installations miss hosts only by faults or lost cables, and settles end settled; and what the sink took
+/// is a prefix of the report, after a failed write and where memory ran out.
+pub fn what_promises_imply()
+    ensures moments { (a : AcceptedText) → IsPromised a → HasSoundMoments a }
+    ensures met_faults { (a : AcceptedText) → IsPromised a → InjectionsAreLeft a → HasMetFaults a }
+    ensures cut_off { (a : AcceptedText) (taken now : Option (List ℕ)) (last : SessionState) → IsPromised a
+        → IsCutOff a taken now last → IsPartOfReport a taken now }
+    ensures interrupted { (a : AcceptedText) (taken now : Option (List ℕ)) (left : SessionState) → IsPromised a
+        → IsInterrupted a taken now left → IsPartOfReport a taken now }
 {}

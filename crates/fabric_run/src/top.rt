@@ -1,20 +1,16 @@
 //! The top call.
 
-ghost use Rattle.std.specs.Prelude.{◌≡◌, ◌≤◌, ◌↔◌, ◌⊎◌, ℕ, List, length, false, IfSome, None};
+ghost use Rattle.std.specs.Prelude.{◌≡◌, ◌≤◌, ◌⊎◌, ℕ, List, length, IfSome, Ok, Err};
 ghost use Rattle.std.specs.List.{AllByRecursion};
-ghost use Rattle.std.specs.Io.KnownBytes.{Appends};
 ghost use Rattle.fab_outer.specs.Fault.{Rose};
-ghost use Rattle.fab_outer.specs.Whole.{IsLonger};
 ghost use Rattle.world_defs.specs.World.{fabric_of};
 ghost use Rattle.run_defs.specs.Session.{new_session};
 ghost use Rattle.fab_script.specs.Ranges.{IsCommandOf};
-ghost use Rattle.input_texts.specs.Reading.{AcceptedText, input_limit, reading, IsAccepted, IsRefused, refusal_text};
+ghost use Rattle.input_texts.specs.Reading.{AcceptedText, input_limit, reading, IsAccepted};
 ghost use Rattle.fabric_run.specs.Promise.{IsPromised};
-ghost use Rattle.fabric_run.specs.Left.{HasInjectionsLeft};
-ghost use Rattle.input_texts.specs.Forms.{form_of, IsRunForm, IsGenForm};
-ghost use Rattle.fabric_run.specs.Generated.{GenEnds};
-ghost use Rattle.fabric_run.specs.Ends.{Came, IsReported, IsWriteCut, IsTextCut, IsUnread, own_answer, may_hold};
-ghost use Rattle.fabric_run.specs.Ends.{ReportEnds, RefusalEnds, TextEnds, InputEnds};
+ghost use Rattle.fabric_run.specs.Left.{InjectionsAreLeft};
+ghost use Rattle.input_texts.specs.Forms.{form_of, IsRunForm};
+ghost use Rattle.fabric_run.specs.Ends.{own_answer, SaidEnds, InputEnds, RunEnds};
 
 use crate::generated::run_generated;
 use crate::promise::{left_injections, promised_texts};
@@ -36,92 +32,57 @@ const MAX_INPUT: usize = 1048576;
 /// runs the text of N hosts and the seed, and writes the summary of its report once all commands ran. The session of
 /// the script is handed back.
 pub fn run<S: Source, K: Sink>(alloc: Global, words: &[Word], input: &mut S, out: &mut K) -> Ran
-    // Exactly where the words are none of the forms, nothing is done.
-    ensures usage { (result.status ≡ Status.Usage) ↔ (form_of words.now ≡ None) }
-    ensures usage_reads_nothing { result.status ≡ Status.Usage → input.new ≡ input.old }
-    ensures usage_writes_nothing { result.status ≡ Status.Usage → out.new ≡ out.old }
+    // How it ends, by its words and its answer: what was read, what the sink took, and which session is handed back.
+    // Exactly where the words are none of the forms the answer is `Usage`, and nothing is done. Under `run` a text is
+    // read whole, or not at all where memory ran out; of an accepted one the sink took exactly what the commands that
+    // ran printed, but for the end of the last one's text where a write failed, and the session is theirs, with the next
+    // command cut short where memory ran out for it; of a refused one it took the line of the first fault, and after a
+    // failed write a prefix of that, not the whole. Under `gen N SEED` nothing is read, and the sink took the summary of
+    // the run of the text of N and SEED, a prefix of it, not the whole, before a failed write, or nothing.
+    ensures ends { RunEnds (form_of words.now)
+        (input.new ≡ input.old)
+        (out.new ≡ out.old)
+        record {
+          left = S.left input.old;
+          taken = K.taken out.old;
+        }
+        record {
+          left = S.left input.new;
+          taken = K.taken out.new;
+        }
+        result.status result.session }
 
-    // A count never falls.
+    // A fault is answered only where the object's count rose, and a count never falls.
+    ensures read_fault { result.status ≡ Status.ReadFault → Rose (S.faults input.old) (S.faults input.new) }
+    ensures write_fault { result.status ≡ Status.WriteFault → Rose (K.faults out.old) (K.faults out.new) }
     ensures read_later { S.faults input.old ≤ S.faults input.new }
     ensures written_later { K.faults out.old ≤ K.faults out.new }
 
-    // Under `run`, where nothing fails, the answer is the text's own.
+    // So under `run`, where nothing fails, the answer is the text's own, unless memory ran out.
     ensures own_answer { IsRunForm words.now → ¬ Rose (S.faults input.old) (S.faults input.new)
         → ¬ Rose (K.faults out.old) (K.faults out.new)
         → IfSome (S.left input.old) (λ text. (result.status ≡ own_answer text) ⊎ (result.status ≡ Status.NoMemory)) }
 
-    // Under `run` the whole input was read and is accepted: all its commands ran, the sink took exactly what they
-    // printed, and their session is handed back.
-    ensures done { IsRunForm words.now → result.status ≡ Status.Done
-        → (text : List ℕ) × Came (S.left input.old) (S.left input.new) text
-        × ((a : AcceptedText) × IsAccepted text a × IsReported a (K.taken out.old)
-        (K.taken out.new) result.session) }
-
-    // The whole input was read and isn't accepted, and the sink took exactly the line that reports its first fault.
-    ensures refused { (line kind : _) → result.status ≡ Status.Refused line kind
-        → (text : List ℕ) × Came (S.left input.old) (S.left input.new) text × IsRefused text line kind
-        × Appends (K.taken out.old) (K.taken out.new) (refusal_text (record { line = line; kind = kind })) }
-
-    // A fault is answered only where the object's count rose.
-    ensures read_fault { result.status ≡ Status.ReadFault → Rose (S.faults input.old) (S.faults input.new) }
-    ensures read_fault_writes_nothing { result.status ≡ Status.ReadFault → out.new ≡ out.old }
-    ensures write_fault { result.status ≡ Status.WriteFault → Rose (K.faults out.old) (K.faults out.new) }
-
-    // Under `run`, after a failed write: the session after the commands that ran, of which the sink took what they
-    // printed, but for the end of the last one's text; or, of a refusal's line, a prefix, not the whole. So where
-    // the sink says that it took such a line whole, the answer is the refusal.
-    ensures write_fault_part { IsRunForm words.now → result.status ≡ Status.WriteFault
-        → (text : List ℕ) × Came (S.left input.old) (S.left input.new) text
-        × IsWriteCut (reading text) (K.taken out.old) (K.taken out.new) result.session }
-
-    // More came than an input may have.
-    ensures too_long { result.status ≡ Status.TooLong → IsLonger (S.left input.old) input_limit }
-    ensures too_long_writes_nothing { result.status ≡ Status.TooLong → out.new ≡ out.old }
-
-    // Memory ran out under `run`. The input is as it was, and nothing was written. Or the whole input was read. Then
-    // nothing was written, and a sound line stands before the text's first fault, or the text is refused and has no
-    // memory for its one line. Or exactly what the commands that ran printed was written, and the session is theirs
-    // with the next command cut short: a prefix of its acts leads to the world, and the last map and the last routes
-    // are theirs; the two hosts that restart are theirs, or new, where the command is their first event, or as it
-    // leaves them. Where a command had run the session is handed back.
-    ensures no_memory { IsRunForm words.now → result.status ≡ Status.NoMemory
-        → IsUnread (input.new ≡ input.old) (K.taken out.old) (K.taken out.new) result.session
-        ⊎ ((text : List ℕ) × Came (S.left input.old) (S.left input.new) text
-        × IsTextCut text (K.taken out.old) (K.taken out.new) result.session) }
-
-    // Under `gen N SEED` nothing is read. The text of N and SEED is accepted and all its commands ran: the sink took
-    // exactly the summary of what they printed, or a prefix before a failed write, and not all of it, and their
-    // session is handed back; or memory ran out, nothing was written, and no session is handed back. There is no
-    // other answer.
-    ensures gen_reads_nothing { (n seed : ℕ) → IsGenForm words.now n seed → input.new ≡ input.old }
-    ensures generated { (n seed : ℕ) → IsGenForm words.now n seed
-        → GenEnds n seed (K.taken out.old) (K.taken out.new) (K.faults out.old)
-        (K.faults out.new) result.status result.session }
-
-    // Where no command may have run, no session is handed back.
-    ensures no_session { may_hold result.status ≡ false → result.session ≡ None }
-
-    // Every accepted text, and so every prefix of its script, keeps the promise. Of the fabric before its command, a
-    // map under the word complete is right, with its marks, and one host's are one map while the fabric stands alike; a
-    // deep one of a quiet fabric says so; a doubtful one has its cause while injections are left; whatever vertex or
-    // cable a map shows was there; a map of circuit links is the circuit map to its depth. Printed routes led where
-    // they say as their map began, with ranks that rise. Each count of installed hosts has its cause, and no more are
-    // counted than have their table; each settle ends settled, with all got where there were tokens enough and the
-    // routes are whole; the installed routes have no cycle. What polls hand out is a prefix of what sends were accepted
-    // with, and what lines `received` show of what `send` lines with a token handed in; each send token comes back with
-    // its own message. Each command is acts, each one action of one host, of one channel or of one cable. Every moment
-    // of the run is sound, and reached by acts that may happen: the world after its first commands, and after each
-    // prefix of the acts of the next one. The two hosts that restart are reached by their events, where an
+    // Every accepted text, and so every prefix of its script, keeps the promise. It has one run. Each command does one
+    // thing, by acts that may happen, each one action of one host, of one channel or of one cable; and what its lines
+    // say is true. Of the fabric before its command, a map under the word complete is right, with its marks, and one
+    // host's are one map while the fabric stands alike; a deep one of a quiet fabric says so; a doubtful one has its
+    // cause while injections are left; whatever vertex or cable a map shows was there; a map of circuit links is the
+    // circuit map to its depth. Printed routes led where they say as their map began, with ranks that rise. Each count
+    // of installed hosts has its cause, and no more are counted than have their table; each settle ends settled, with
+    // all got where there were tokens enough and the routes are whole. Each world after first commands, and after each
+    // prefix of the acts of the next one, is reached; each that is reached is sound: the installed routes have no
+    // cycle, what was got is a prefix of what was sent, and each token has one owner. What polls hand out is a prefix
+    // of what sends were accepted with, and what lines `received` show of what `send` lines with a token handed in;
+    // each send token comes back with its own message. The two hosts that restart are reached by their events, where an
     // incarnation's number survives its host's restart: what each incarnation got is a prefix of what it was sent, each
     // token has one owner, and polls that print sent, or unsure, are right.
     ensures promise { (text : List ℕ) (a : AcceptedText) → IsAccepted text a → IsPromised a }
 
-    // Where the text is within the limit of an input, all its commands together inject fewer than 2^63 packets. So its
-    // doubtful maps and the hosts that its installations don't count have met faults or lost cables, each of its
-    // settles ends settled, and one with tokens enough delivers all over whole routes: no injections need to be left
-    // for that.
+    // Where the text is within the limit of an input, all its commands together inject fewer than 2^63 packets: so
+    // injections are left wherever the promise asks for that.
     ensures left { (text : List ℕ) (a : AcceptedText) → length text ≤ input_limit → IsAccepted text a
-        → HasInjectionsLeft a }
+        → InjectionsAreLeft a }
 {
     promised_texts();
     left_injections();
@@ -136,23 +97,20 @@ pub fn run<S: Source, K: Sink>(alloc: Global, words: &[Word], input: &mut S, out
 fn run_input<S: Source, K: Sink>(alloc: Global, input: &mut S, out: &mut K) -> Ran
     ensures ends { InputEnds
         (input.new ≡ input.old)
+        (out.new ≡ out.old)
         record {
           left = S.left input.old;
-          read_faults = S.faults input.old;
           taken = K.taken out.old;
-          write_faults = K.faults out.old;
         }
         record {
           left = S.left input.new;
-          read_faults = S.faults input.new;
           taken = K.taken out.new;
-          write_faults = K.faults out.new;
         }
         result.status result.session }
+    ensures read_fault { result.status ≡ Status.ReadFault → Rose (S.faults input.old) (S.faults input.new) }
+    ensures write_fault { result.status ≡ Status.WriteFault → Rose (K.faults out.old) (K.faults out.new) }
     ensures read_later { S.faults input.old ≤ S.faults input.new }
     ensures written_later { K.faults out.old ≤ K.faults out.new }
-    ensures read_fault { result.status ≡ Status.ReadFault → out.new ≡ out.old }
-    ensures too_long { result.status ≡ Status.TooLong → out.new ≡ out.old }
 {
     match read_all(alloc, input, MAX_INPUT) {
         Ok(text) => run_text(alloc, &text, out),
@@ -165,8 +123,9 @@ fn run_input<S: Source, K: Sink>(alloc: Global, input: &mut S, out: &mut K) -> R
 // Does what a text says.
 fn run_text<K: Sink>(alloc: Global, text: &[u8], out: &mut K) -> Ran
     requires { length text.now ≤ input_limit }
-    ensures ends { TextEnds text.now (K.taken out.old) (K.taken out.new) (K.faults out.old)
-        (K.faults out.new) result.status result.session }
+    ensures ends { SaidEnds (reading text.now) (out.new ≡ out.old) (K.taken out.old) (K.taken out.new)
+        result.status result.session }
+    ensures write_fault { result.status ≡ Status.WriteFault → Rose (K.faults out.old) (K.faults out.new) }
     ensures later { K.faults out.old ≤ K.faults out.new }
 {
     match read_text(alloc, text) {
@@ -179,8 +138,9 @@ fn run_text<K: Sink>(alloc: Global, text: &[u8], out: &mut K) -> Ran
 // Runs a script over its fabric, in a session of its own.
 fn run_script<K: Sink>(alloc: Global, accepted: Accepted, out: &mut K) -> Ran
     requires over { AllByRecursion (IsCommandOf accepted.network) accepted.commands }
-    ensures ends { ReportEnds accepted (K.taken out.old) (K.taken out.new) (K.faults out.old)
-        (K.faults out.new) result.status result.session }
+    ensures ends { SaidEnds (Ok accepted) (out.new ≡ out.old) (K.taken out.old) (K.taken out.new)
+        result.status result.session }
+    ensures write_fault { result.status ≡ Status.WriteFault → Rose (K.faults out.old) (K.faults out.new) }
     ensures later { K.faults out.old ≤ K.faults out.new }
 {
     let Accepted { fabric, script } = accepted;
@@ -199,8 +159,9 @@ fn run_commands<K: Sink>(
 ) -> Ran
     requires fresh { session ≡ new_session (fabric_of session.world) }
     requires over { AllByRecursion (IsCommandOf (fabric_of session.world)) commands.now }
-    ensures ends { ReportEnds (record { network = fabric_of session.world; commands = commands.now })
-        (K.taken out.old) (K.taken out.new) (K.faults out.old) (K.faults out.new) result.status result.session }
+    ensures ends { SaidEnds (Ok (record { network = fabric_of session.world; commands = commands.now }))
+        (out.new ≡ out.old) (K.taken out.old) (K.taken out.new) result.status result.session }
+    ensures write_fault { result.status ≡ Status.WriteFault → Rose (K.faults out.old) (K.faults out.new) }
     ensures later { K.faults out.old ≤ K.faults out.new }
 {
     for command in commands {
@@ -220,11 +181,9 @@ fn run_commands<K: Sink>(
 
 // Writes the line of a text that isn't accepted.
 fn write_refusal<K: Sink>(alloc: Global, line: u32, kind: FaultKind, out: &mut K) -> Ran
-    ensures ends { RefusalEnds record {
-      line = line;
-      kind = kind;
-    } (K.taken out.old) (K.taken out.new) (K.faults out.old)
-        (K.faults out.new) result.status result.session }
+    ensures ends { SaidEnds (Err (record { line = line; kind = kind })) (out.new ≡ out.old)
+        (K.taken out.old) (K.taken out.new) result.status result.session }
+    ensures write_fault { result.status ≡ Status.WriteFault → Rose (K.faults out.old) (K.faults out.new) }
     ensures later { K.faults out.old ≤ K.faults out.new }
 {
     let Ok(text) = refusal_line(alloc, line, kind) else {

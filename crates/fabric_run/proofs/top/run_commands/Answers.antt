@@ -1,4 +1,4 @@
-use Rattle.std.proofs.Common.{◌≡◌, ◌+◌, ℕ, suc, List, take, Some, refl, subst, ◌∙◌, arith}
+use Rattle.std.proofs.Common.{◌≡◌, ◌+◌, ℕ, suc, List, take, Some, Ok, refl, subst, ◌∙◌, arith}
 use Rattle.fab_outer.specs.Whole.{TakesProperPrefix}
 use Rattle.std.specs.Io.KnownBytes.{Appends}
 use Rattle.world_defs.specs.World.{fabric_of}
@@ -8,7 +8,7 @@ use Rattle.net_defs.specs.Network.{Network}
 use Rattle.run_session.specs.Obeyed.{IsObeyedIn}
 use Rattle.fabric_run.specs.Ends.{HaveRun}
 use Rattle.fabric_run.specs.declared.status.Status.TheVariants.{WriteFault, NoMemory}
-use Rattle.fabric_run.proofs.Endings.{report-so}
+use Rattle.fabric_run.proofs.Endings.{said-so}
 use Rattle.fabric_run.proofs.Naming.{on-vertices}
 use Rattle.fabric_run.proofs.Writing.{none-ran, more-ran, cut-ran, interrupted, rose-earlier, on_err, on_ok}
 use Rattle.fabric_run.proofs.top.run_commands.Goals as goal
@@ -24,7 +24,8 @@ pub returns-in-Err-clause-ends : goal.returns-in-Err-clause-ends
 returns-in-Err-clause-ends g c =
     let n : Network = fabric_of c.args.session.world in
     let cs : List Command = c.args.commands.now in
-    report-so (record { network = n; commands = cs }) _ _ _ _ NoMemory c.with_session.result.status (Some c.in-Err.wanting) c.with_session.result.session
+    said-so (Ok (record { network = n; commands = cs })) (c.loop-command.out ≡ c.args.out.now) (g.K.Sink.taken c.args.out.now) (g.K.Sink.taken c.loop-command.out)
+    NoMemory c.with_session.result.status (Some c.in-Err.wanting) c.with_session.result.session
     c.with_session.ensures.status c.with_session.ensures.some
     (interrupted n cs c.loop-command.command-index _ _ c.loop-command.session c.in-Err.wanting c.command-item.result c.loop-command-test.true c.command-item.is c.loop-command.invariant.ran
     c.in-Err.ensures.cut c.in-Err.ensures.kept_map c.in-Err.ensures.kept_routes c.in-Err.ensures.duo)
@@ -39,12 +40,15 @@ returns-then-is_err-clause-ends g c =
     let part : TakesProperPrefix (g.K.Sink.taken c.loop-command.out) (g.K.Sink.taken c.write_all.new.sink) p.text =
     subst (TakesProperPrefix (g.K.Sink.taken c.loop-command.out) (g.K.Sink.taken c.write_all.new.sink)) same
     (on_err c.write_all.result _ c.if-is_err.ensures.value c.write_all.ensures.part) in
-    report-so (record { network = n; commands = cs }) _ _ _ _ WriteFault c.with_session-then-is_err.result.status (Some c.in-Ok.next) c.with_session-then-is_err.result.session
-    c.with_session-then-is_err.ensures.status c.with_session-then-is_err.ensures.some (
-      rose-earlier _ _ _ c.loop-command.invariant.later (on_err c.write_all.result _ c.if-is_err.ensures.value c.write_all.ensures.cause.failed),
-      cut-ran n cs c.loop-command.command-index _ _ _ c.loop-command.session c.in-Ok.next c.command-item.result p
-          c.loop-command-test.true c.command-item.is c.loop-command.invariant.ran c.loop-command.invariant.vertices obeyed.1 part,
-    )
+    said-so (Ok (record { network = n; commands = cs })) (c.write_all.new.sink ≡ c.args.out.now) (g.K.Sink.taken c.args.out.now) (g.K.Sink.taken c.write_all.new.sink)
+    WriteFault c.with_session-then-is_err.result.status (Some c.in-Ok.next) c.with_session-then-is_err.result.session
+    c.with_session-then-is_err.ensures.status c.with_session-then-is_err.ensures.some
+    (cut-ran n cs c.loop-command.command-index _ _ _ c.loop-command.session c.in-Ok.next c.command-item.result p
+    c.loop-command-test.true c.command-item.is c.loop-command.invariant.ran c.loop-command.invariant.vertices obeyed.1 part)
+
+pub returns-then-is_err-clause-write_fault : goal.returns-then-is_err-clause-write_fault
+returns-then-is_err-clause-write_fault g c =
+    λ e. rose-earlier _ _ _ c.loop-command.invariant.later (on_err c.write_all.result _ c.if-is_err.ensures.value c.write_all.ensures.cause.failed)
 
 pub loop-command-preserved : goal.loop-command-preserved
 loop-command-preserved g c =

@@ -1,0 +1,69 @@
+-- What follows from the promise of a text.
+use Rattle.std.proofs.Common.{◌≡◌, ◌<◌, ◌≤◌, ℕ, suc, List, [], ◌∷◌, ◌++◌, take, refl, sym, ◌∙◌, subst, arith}
+use Rattle.world_defs.specs.World.{last_count}
+use Rattle.world_defs.specs.Sound.{IsSound}
+use Rattle.run_defs.specs.declared.command.Command.{Command}
+use Rattle.run_defs.specs.declared.command.Command.TheVariants.{Map, Install, Settle}
+use Rattle.run_defs.specs.declared.line.Line.TheVariants.{Map as MapLine, Installed, Settle as SettleLine}
+use Rattle.run_defs.specs.declared.line.MapWords.TheVariants.{Doubtful}
+use Rattle.run_defs.specs.Output.{Piece, OneLine, MapLines}
+use Rattle.run_defs.specs.Session.{SessionState}
+use Rattle.run_defs.specs.Run.{Does, IsRun}
+use Rattle.run_laws.proofs.RunsOnce.{runs-more}
+use Rattle.input_texts.specs.Reading.{AcceptedText}
+use Rattle.fabric_run.specs.Following.{HasSoundMoments, HasMetFaults}
+use Rattle.fabric_run.specs.Left.{InjectionsAreLeft}
+use Rattle.fabric_run.specs.Lines.{IsMapTold, IsSettleRight, AreLinesTrue}
+use Rattle.fabric_run.specs.Promise.{IsPromised}
+use Rattle.fabric_run.specs.Steps.{IsNext}
+use Rattle.fabric_run.proofs.Writing.{take-next}
+
+module _ (a : AcceptedText) (promised : IsPromised a) where
+  -- the moments of its run
+  pub sound-moments : HasSoundMoments a
+  sound-moments = record {
+    sound = λ k out last r. (promised.worlds last.world (promised.reached k out last r)).sound;
+    no_cycle = λ k out last r. (promised.worlds last.world (promised.reached k out last r)).sound.no_cycle;
+    cut = λ s c v is cut.
+        let acts = (promised.steps s c is).acts in
+        let way = cut.way in
+        subst IsSound (sym way.there) (acts.sound way.done way.front.rest (sym (acts.one cut.acts cut.are) ∙ way.front.both));
+    duos = λ k out last d r e.
+        let is = (promised.duo.reached k out last d r e).reached in
+        record { in_order = promised.duo.in_order d is; owned = promised.duo.owned d is };
+  }
+
+  -- what a command printed is what the promise speaks of
+  lines-of : (s next : SessionState) (c : Command) (printed : List Piece) → IsNext a s c → Does s c printed next → AreLinesTrue a.network s c printed next
+  lines-of s next c printed is does =
+      let step = promised.steps s c is in
+      let one = step.done.one printed next does in
+      subst (λ o. AreLinesTrue a.network s c o next) (sym one.0) (subst (AreLinesTrue a.network s c step.done.out) (sym one.1) step.lines)
+
+  -- injections are left after it
+  left-after : (s next : SessionState) (c : Command) (printed : List Piece) → InjectionsAreLeft a → IsNext a s c → Does s c printed next → next.world.injected < last_count
+  left-after s next c printed left is does =
+      let run : IsRun a.network (take (suc is.count) a.commands) (is.printed ++ printed) next =
+      subst (λ l. IsRun a.network l (is.printed ++ printed) next) (sym (take-next a.commands is.count c is.there)) (runs-more c printed is.run does) in
+      let low = left (suc is.count) (is.printed ++ printed) next run in
+      omega (arith, low)
+
+  -- so faults were met where something is missed, and settles end settled
+  pub met-faults : InjectionsAreLeft a → HasMetFaults a
+  met-faults left = record {
+    doubtful = λ s next host depth tries drowned asks packets m is does.
+        let printed : List Piece = OneLine (MapLine host (Doubtful drowned) asks packets) ∷ MapLines m ∷ [] in
+        let told : IsMapTold a.network s next host depth printed = lines-of s next (Map host depth tries) printed is does in
+        (told.shown (Doubtful drowned) asks packets m refl).doubt drowned refl (left-after s next (Map host depth tries) printed left is does);
+    missed = λ s next tries acked total rest is does.
+        let printed : List Piece = OneLine (Installed acked total) ∷ rest in
+        let low = left-after s next (Install tries) printed left is does in
+        let told = lines-of s next (Install tries) printed is does acked total rest refl in
+        let line = told.1 in
+        record { last = line.last; are = line.are; cause = line.cause low; unharmed = λ same calm. line.unharmed (omega (arith, told.0)) low same calm };
+    settled = λ s next rounds resets unacked rest is does.
+        let printed : List Piece = OneLine (SettleLine rounds resets unacked) ∷ rest in
+        let low = left-after s next Settle printed left is does in
+        let told : IsSettleRight s next rounds resets unacked = lines-of s next Settle printed is does rounds resets unacked rest refl in
+        (told.line.settled low, λ enough paths. let none = told.delivers low enough paths in (none, told.line.got none));
+  }
