@@ -57,6 +57,10 @@ class Fabric:
             changed.add_cable(*ends)
         return changed
 
+    def lost_since(self, before):
+        """The cables that an earlier fabric of a run has and this one lacks, as sets of two ends; none where it is the same one."""
+        return set() if self is before else {frozenset(it) for it in before.cables if it not in self.cables}
+
     def without_planned(self):
         """The fabric without the cables that a planned pull of the script may have taken: no line says whether it did."""
         fabric = self

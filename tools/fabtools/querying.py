@@ -48,7 +48,7 @@ def routed(fabric, report):
             yield laid
         elif isinstance(item, Routes):
             if shown:
-                yield Routed(last.fabric, shown, last.at, item)
+                yield Routed(last.fabric, shown, last.at, item, set(map(frozenset, report.moves(fabric, shown.line)[0])))
         else:
             yield item
 
@@ -101,7 +101,7 @@ class Pair:
         self.found = {(a, b): routed.of(a, b), (b, a): routed.of(b, a)}
 
     def facts(self):
-        return {"routes": [it.facts() for it in self.found.values() if it]}
+        return {"routes": [{**it.facts(), "pulled": self.routed.is_cut(it)} for it in self.found.values() if it]}
 
     def lines(self):
         return [line for (sender, receiver), it in self.found.items() for line in self.route_lines(sender, receiver, it)]
@@ -111,10 +111,12 @@ class Pair:
             yield f"{sender} to {receiver}: the report has no such route"
             return
         more = f"{route.detour()} more than the shortest way" if route.detour() else "a shortest way"
-        yield f"{sender} to {receiver}: {counted(len(route.way), 'cable')}, {more}"
+        cut = "; a cable of it is gone" if self.routed.is_cut(route) else ""
+        yield f"{sender} to {receiver}: {counted(len(route.way), 'cable')}, {more}{cut}"
         wide = max(map(len, map(channel_text, route.way)))
         for it in route.way:
-            yield f"  {channel_text(it):{wide}}  rank {self.routed.ranks.get(it[0], '?')}, on {counted(self.routed.load[it], 'route')}"
+            gone = ", pulled since" if frozenset(it) in self.routed.pulled else ""
+            yield f"  {channel_text(it):{wide}}  rank {self.routed.ranks.get(it[0], '?')}, on {counted(self.routed.load[it], 'route')}{gone}"
         if route.detour():
             yield f"  a shortest way: {way_text(shortest_way(self.routed.fabric, sender, receiver))}"
 
@@ -136,13 +138,14 @@ class Cable:
             raise NoSuchThing(f"no cable is at {word}")
         self.channels = [(end, far), (far, end)]
         self.across = {it: routed.across(it) for it in self.channels}
+        self.is_gone = frozenset(self.channels[0]) in routed.pulled
 
     def facts(self):
         pairs = {it: [[route.sender, route.receiver] for route in self.across[it]] for it in self.channels}
-        return {"channels": [{"channel": channel_text(it), "pairs": pairs[it]} for it in self.channels]}
+        return {"channels": [{"channel": channel_text(it), "pairs": pairs[it], "pulled": self.is_gone} for it in self.channels]}
 
     def lines(self):
-        told = [f"the cable {end_text(self.channels[0][0])} - {end_text(self.channels[0][1])}"]
+        told = [f"the cable {end_text(self.channels[0][0])} - {end_text(self.channels[0][1])}{', pulled since' * self.is_gone}"]
         for channel in self.channels:
             told.append(f"  {channel_text(channel)}: {counted(len(self.across[channel]), 'route')}")
             senders = dict.fromkeys(it.sender for it in self.across[channel])

@@ -111,6 +111,17 @@ class Report:
                 fabric = fabric.after(item[1])
             yield item, fabric
 
+    def moves(self, fabric, line=0):
+        """The cables in place at a line that lines after it pull, and those that these plug and leave in place; the fabric is the text's."""
+        pulled, plugged, before = [], [], fabric
+        for item, standing in self.standing(fabric):
+            if standing is not before and item[0] > line:
+                for cable in [it for it in before.cables if it not in standing.cables]:
+                    (plugged.remove if cable in plugged else pulled.append)(cable)
+                plugged += [it for it in standing.cables if it not in before.cables]
+            before = standing
+        return pulled, plugged
+
     def of(self, kind):
         return [it for it in self.items if isinstance(it, kind)]
 

@@ -41,10 +41,10 @@ class Route:
 
 
 class Routed:
-    """The routes of a report with the ranks of their channels, in the fabric's names."""
+    """The routes of a report with the ranks of their channels, in the fabric's names, and the cables pulled since their map."""
 
-    def __init__(self, fabric, shown, at, routes):
-        self.fabric, self.line = fabric, routes.line
+    def __init__(self, fabric, shown, at, routes, pulled=frozenset()):
+        self.fabric, self.line, self.pulled = fabric, routes.line, pulled
         self.ranks = {real_end(at, end): rank for end, rank in routes.ranks.items()}
         self.seen = {at[it][0] for it in shown.vertices if it in at}
         self.load, self.routes, near = Counter(), [], {}
@@ -57,6 +57,9 @@ class Routed:
 
     def of(self, sender, receiver):
         return next((it for it in self.routes if (it.sender, it.receiver) == (sender, receiver)), None)
+
+    def is_cut(self, route):
+        return any(frozenset(it) in self.pulled for it in route.way)
 
     def across(self, channel):
         return [it for it in self.routes if channel in it.way]

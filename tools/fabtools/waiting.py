@@ -49,7 +49,7 @@ class Calls:
     def change(self, words, answer):
         """A line that changes cables or routes."""
         before, self.fabric = self.fabric, self.fabric.after(answer)
-        self.cut |= {frozenset(it) for it in before.cables if it not in self.fabric.cables}
+        self.cut |= self.fabric.lost_since(before)
         if words[0] == "install":
             self.installed, self.cut = self.crossed, set()
         elif words[0] == "revoke":
@@ -87,6 +87,9 @@ class Calls:
             return f"{lane[0]} has no routes, so it can't send: 'install' again"
         if self.tables.get(lane[1]) != "active":
             return f"{lane[1]} has no routes, so it can't acknowledge: 'install' again"
+        for one, other in (lane[:2], lane[1::-1]):
+            if (one, other) not in self.installed:
+                return f"no route from {one} to {other} is installed: 'map', 'routes', 'revoke', 'install'"
         if self.is_cut(*lane[:2]) or self.is_cut(lane[1], lane[0]):
             return "its route, or the one back, crosses a pulled cable: 'map', 'routes', 'revoke', 'install'"
         if port not in self.open:

@@ -1,5 +1,5 @@
 # A small repository: one crate alone stands on what it should of the kit, the page lacks a crate, has one that is gone and one too early,
-# and a definition isn't where it was.
+# a definition isn't where it was, and of what carries a promise a law and a clause are gone.
 root=$(mktemp -d)
 trap 'rm -rf "$root"' EXIT
 mkdir -p "$root/docs/pictures" "$root/crates/net_defs/specs" "$root/crates/net_defs/src"
@@ -21,6 +21,10 @@ printf '| `%s` | what it promises |\n' net_defs map_defs run_defs >> "$root/docs
 printf '## %s\n' 'Laws' 'The program' >> "$root/docs/PROVED.md"
 printf '| `%s` | what it promises |\n' map_laws gm_port gone_laws >> "$root/docs/PROVED.md"
 printf '%s\n' '| `far` | `crates/net_defs/specs/Network.antt` | ? |' '| `near` | `crates/net_defs/specs/Network.antt` | ? |' > "$root/docs/DEFINITIONS.md"
+printf '%s\n' '**A fabric is hosts.**' '**By** the clause `hosts`, `cables`; `map_laws::fabrics`, `walks`.' '' > "$root/docs/PROMISES.md"
+mkdir -p "$root/crates/fabric_run/src" "$root/crates/map_laws/src"
+echo 'ensures hosts' > "$root/crates/fabric_run/src/top.rt"
+echo 'pub fn fabrics' > "$root/crates/map_laws/src/lib.rt"
 printf 'abbrev pub far : A\n' > "$root/crates/net_defs/specs/Network.antt"
 printf '%s\n' '//! What a fabric is: hosts, switches' '//! and cables. It holds none.' '//!' '//! More.' > "$root/crates/net_defs/src/lib.rt"
 draw-crates "$root" > "$root/docs/pictures/laws.svg"

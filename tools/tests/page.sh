@@ -10,3 +10,4 @@ page ../../examples/cut-leaf.in ../../examples/cut-leaf.out | grep -Eo '<g class
 page ../../examples/self-cabled-map.in ../../examples/self-cabled-map.out --layout ring | grep -Eo '<g class="vertex [^"]*outside".*' | grep -Eo '<title>.*</title>'
 # Cables that came and went.
 page ../../examples/pulled-and-plugged.in ../../examples/pulled-and-plugged.out | grep -Eo '<b>[0-9]+</b> (pulled|plugged)'
+page moves.in moves.report | grep -Eo '<g class="cable (gone|anew)"|<title>.*(pulled|plugged)[^<]*'
