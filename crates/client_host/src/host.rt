@@ -76,6 +76,7 @@ impl ClientHost {
 
     /// A packet reached the host: what was made of it is exactly what the definition makes of its bytes. Running out of
     /// memory changes nothing.
+    #[inline(always)]
     pub fn on_packet(&mut self, alloc: Global, p: &Packet) -> Result<Arrival, AllocError>
         ensures heard { IfOk result (λ arrival. arrival ≡ (hear self.old.host self.old.hosts self.old.state p.now).0) }
         ensures after { OnOk result (self.new ≡ in_state self.old
@@ -109,6 +110,7 @@ impl ClientHost {
     }
 
     /// A probe counts as sent that took the place of what was staged: nothing is staged in that place any more.
+    #[inline(always)]
     pub fn probe_sent(&mut self)
         ensures { self.new ≡ in_state self.old (record self.old.state { staged = None }) }
     {

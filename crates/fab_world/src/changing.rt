@@ -65,6 +65,7 @@ pub(crate) fn inject(
 }
 
 /// A host stages a probe and puts it into its channel at once, as [`inject`] does.
+#[inline(always)]
 pub(crate) fn probe(
     fabric: &mut Fabric,
     machine: &mut Machine,

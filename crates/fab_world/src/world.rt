@@ -100,7 +100,8 @@ impl World {
 
     /// A host stages a probe by a walk, in the place of what it has staged, and puts it into its channel:
     /// [`World::step`] of [`Event::Ask`] and then of [`Event::Inject`], whose effect it answers. Running out of memory
-    /// changes nothing.
+    /// changes nothing. With its parts it stands in its callers, where no packet is moved from one to the other.
+    #[inline(always)]
     pub fn probe(
         &mut self,
         alloc: Global,
@@ -139,7 +140,9 @@ impl World {
         changing::inject(&mut self.fabric, &mut self.machine, alloc, host)
     }
 
-    /// [`World::step`] of [`Event::Advance`]. Running out of memory changes nothing.
+    /// [`World::step`] of [`Event::Advance`]. Running out of memory changes nothing. It stands in its callers with all
+    /// but the host that hears the packet: most packets of a mapper are dropped at a switch.
+    #[inline(always)]
     pub fn advance(&mut self, alloc: Global, c: u16) -> Result<Effect, AllocError>
         requires { IsChannelOf self.old c }
         ensures ok { IfOk result (λ x. step self.old (Advance c) ≡ (x, self.new)) }

@@ -38,7 +38,8 @@ impl StagedItem {
 }
 
 /// The packet of a probe of a walk, injected by a host under a number. A looped one returns to its host: its walk has
-/// at most 31 turns.
+/// at most 31 turns. It stands in its callers, to which the packet isn't moved.
+#[inline(always)]
 pub fn probe_packet(
     alloc: Global,
     host: u16,

@@ -25,6 +25,7 @@ use turn_bytes::is_route_byte;
 const MAPPING: u16 = 5;
 
 /// Over the channel's cable it arrives at a host, or a switch sends it on by its front byte.
+#[inline(always)]
 pub(crate) fn course(wiring: &Wiring, c: u16, p: &Packet) -> Course
     requires { c < life_channels wiring.now }
     ensures { result ≡ course wiring.now c p.now }

@@ -12,7 +12,8 @@ use world_defs::Arrival;
 
 impl NicNode {
     /// A packet reached the host: what was made of it is exactly what the definition makes of its bytes. Running out of
-    /// memory changes nothing.
+    /// memory changes nothing. It is no part of its caller's frame, which a packet that reaches no host pays for.
+    #[inline(never)]
     #[tactic(auto, unfolding(world_defs::specs::Hearing::hear))]
     pub fn on_packet(&mut self, alloc: Global, p: &Packet) -> Result<Arrival, AllocError>
         ensures heard { IfOk result (λ arrival. hear self.old.host self.old.hosts self.old.state p.now

@@ -169,7 +169,9 @@ fn loop_try(alloc: Global, w: &mut World, mapper: u16, walk: &Walk) -> Result<Lo
     })
 }
 
-// Stages a probe of a walk at a host, which puts it into its channel. Running out of memory changes nothing.
+// Stages a probe of a walk at a host, which puts it into its channel. Running out of memory changes nothing. It
+// stands in both tries, most of whose cost it is.
+#[inline(always)]
 fn send_probe(
     alloc: Global,
     w: &mut World,

@@ -19,7 +19,9 @@ use std::alloc::{AllocError, Global};
 // From so many packets that a pass moved on, channels that wait are worth a note.
 const MANY: u64 = 16;
 
-/// Passes until none changes anything, or no packet is left.
+/// Passes until none changes anything, or no packet is left. They are no part of their caller's frame, which a packet
+/// that is alone pays for.
+#[inline(never)]
 pub(crate) fn drain_by_passes(
     alloc: Global,
     w: &mut World,

@@ -34,6 +34,8 @@ pub fn drain(alloc: Global, w: &mut World) -> Result<u64, AllocError>
 }
 
 /// A drain, with what a mapper sees of it. Running out of memory leaves a world that a prefix of its events leads to.
+/// It stands in its callers, to which what was seen isn't handed over.
+#[inline(always)]
 pub fn drain_watching(alloc: Global, w: &mut World, watch: Watch) -> Result<Seen, AllocError>
     ensures seen { IfOk result (λ s. s ≡ seen_in watch (log.drain w.old).value) }
     ensures heard { IfOk result (λ s. IfSome s.probed (λ h. h < host_count w.old)) }
@@ -47,6 +49,7 @@ pub fn drain_watching(alloc: Global, w: &mut World, watch: Watch) -> Result<Seen
 }
 
 // A packet that is alone runs out, and then what is left is drained.
+#[inline(always)]
 fn drain_parts(alloc: Global, w: &mut World, watch: &Watch) -> Result<Seen, AllocError>
     ensures seen { IfOk result (λ s. s ≡ seen_in watch.now (log.drain w.old).value) }
     ensures after { OnOk result (w.new ≡ (log.drain w.old).world) }
@@ -62,6 +65,7 @@ fn drain_parts(alloc: Global, w: &mut World, watch: &Watch) -> Result<Seen, Allo
 
 // A packet that is alone in the links leaves them: its hops at once, and then the advance by which it leaves. Where
 // they hold more, or none, nothing happens yet.
+#[inline(always)]
 fn run_out(alloc: Global, w: &mut World, watch: &Watch) -> Result<Seen, AllocError>
     ensures part { IfOk result (IsDrainedTo watch.now w.old w.new) }
     ensures few { IfOk result (λ s. s.changes ≤ 1108) }
@@ -78,6 +82,7 @@ fn run_out(alloc: Global, w: &mut World, watch: &Watch) -> Result<Seen, AllocErr
 }
 
 // The advance by which a packet leaves.
+#[inline(always)]
 fn advance_whole(alloc: Global, w: &mut World, watch: &Watch, c: u16) -> Result<Seen, AllocError>
     requires there { c < length w.old.links.channels }
     ensures seen { IfOk result (λ s. s ≡ seen_in watch.now ((step w.old (Advance c)).0 ∷ [])) }

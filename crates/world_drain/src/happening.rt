@@ -42,6 +42,7 @@ pub fn inject(alloc: Global, w: &mut World, host: u16) -> Result<Option<u64>, Al
 
 /// An ask of a host, and its injection: the number of the probe's packet, where that entered the host's channel.
 /// Running out of memory changes nothing.
+#[inline(always)]
 pub fn probe(
     alloc: Global,
     w: &mut World,

@@ -113,7 +113,9 @@ impl Machine {
 }
 
 /// A packet enters a channel that can take it. Where memory runs out it ends, and nothing has changed: here, away
-/// from the hosts, since a proof goes through its parts wherever it ends.
+/// from the hosts, since a proof goes through its parts wherever it ends. In the program it stands in its callers,
+/// which need not hand the packet over.
+#[inline(always)]
 pub(crate) fn enter(
     links: &mut FaultyLinks,
     alloc: Global,

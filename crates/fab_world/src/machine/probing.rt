@@ -18,6 +18,7 @@ use world_defs::Effect;
 impl Machine {
     /// An ask of a host, and its injection. Where the probe's packet enters the host's channel it is made of the walk
     /// itself: nothing is staged between. Running out of memory changes nothing.
+    #[inline(always)]
     pub(crate) fn probe(
         &mut self,
         alloc: Global,
@@ -44,6 +45,7 @@ impl Machine {
     }
 
     // The probe enters the host's channel, which is this one and can take it.
+    #[inline(always)]
     fn probe_into(
         &mut self,
         alloc: Global,

@@ -17,6 +17,7 @@ use world_defs::Effect;
 impl Machine {
     /// A packet that reaches a host is heard there, and only then leaves its channel. Running out of memory changes
     /// nothing.
+    #[inline(always)]
     pub(crate) fn advance(&mut self, alloc: Global, c: u16) -> Result<Effect, AllocError>
         requires there { IsChannelOf self.old c }
         requires hosts { host_count self.old ≡ length (fabric_of self.old).hosts }

@@ -36,6 +36,7 @@ impl FaultyLinks {
 
     /// A channel's packet that reaches no host goes on through a switch, which may drop it and then counts it as
     /// dropped. Blocked where the next channel holds another packet; idle where this one holds none.
+    #[inline(always)]
     pub fn advance(&mut self, c: u16) -> Effect
         requires there { c < length self.old.links.channels }
         requires inside { reaching self.old.links c ≡ None }

@@ -36,7 +36,9 @@ impl FaultyLinks {
     }
 
     /// Puts a packet into an empty channel under the next number; the fault that is planned for this injection
-    /// strikes at once. Where memory runs out it hands the packet back, and nothing has changed.
+    /// strikes at once. Where memory runs out it hands the packet back, and nothing has changed. It stands in its
+    /// callers, which need not hand the packet over.
+    #[inline(always)]
     pub fn inject(
         &mut self,
         alloc: Global,

@@ -16,7 +16,9 @@ use myri_packet::Packet;
 
 impl Links {
     /// One step of a channel: its packet goes on through a switch, to its host, or nowhere. `Blocked` where the next
-    /// channel holds another packet; the next channel may be the channel itself. It takes no memory.
+    /// channel holds another packet; the next channel may be the channel itself. It takes no memory. With its parts it
+    /// stands in its callers, where no packet is made ready to be handed out that they don't take.
+    #[inline(always)]
     pub fn advance(&mut self, c: u16) -> Moved<Packet>
         requires { c < length self.old.channels }
         ensures moved { result ≡ (advance self.old c).0 }
@@ -64,6 +66,7 @@ impl Links {
     }
 
     // Where a channel's packet goes.
+    #[inline(always)]
     fn course_of(&self, c: u16) -> Option<Course>
         requires { c < length self.now.channels }
         ensures { result ≡ option_map (λ held. course self.now.cables c held.wire) (packet_in self.now c) }
@@ -87,6 +90,7 @@ impl Links {
     }
 
     // A channel's packet goes there.
+    #[inline(always)]
     fn go(&mut self, c: u16, to: Course) -> Moved<Packet>
         requires there { c < length self.old.channels }
         requires course { option_map (λ held. course self.old.cables c held.wire) (packet_in self.old c) ≡ Some to }
