@@ -3,7 +3,7 @@
 #   make install [PREFIX=/usr/local] [DESTDIR=FOLDER]
 #   make uninstall [PREFIX=/usr/local] [DESTDIR=FOLDER]
 PREFIX = /usr/local
-TOOLS = try explain page make what-if dot compare from-ibnetdiscover to-ibsim
+TOOLS = try explain page make what-if dot compare judge judge-routes from-ibnetdiscover to-ibsim
 
 bin = $(DESTDIR)$(PREFIX)/bin
 lib = $(DESTDIR)$(PREFIX)/lib/tilgemor

@@ -9,13 +9,16 @@ import re
 HEAD = re.compile(r'(Switch|Ca|Hca|Rt|Router)\s+(\d+)\s+"([^"]+)"\s*(?:#\s*"([^"]*)")?', re.I)
 PORT = re.compile(r'\[(\d+)\]\s*(?:\([^)]*\))?\s*"([^"]+)"\s*\[(\d+)\]')
 
+# The lid of a line's own port; that of the far end has no `lmc`.
+OWN_LID = re.compile(r"\blid (\d+) lmc\b")
+
 
 class Node:
-    """A switch or an adapter: its own name in the file, what it is called, its ports, and its cables by port."""
+    """A switch or an adapter: its own name in the file, what it is called, its ports, its cables and its lids by port (a switch's: 0)."""
 
     def __init__(self, kind, ports, key, called):
         self.is_switch, self.ports, self.key = kind.lower() == "switch", ports, key
-        self.called, self.far = called or key, {}
+        self.called, self.far, self.lids = called or key, {}, {}
 
 
 class NoTopology(Exception):
@@ -50,13 +53,22 @@ def read(text):
         if head:
             kind, ports, key, called = head.groups()
             node = nodes[key] = Node(kind, int(ports), key, called)
+            add_lid(node, 0, line)
         elif port and node:
             own, key, other = port.groups()
             node.far[int(own)] = (key, int(other))
+            add_lid(node, int(own), line)
     if not nodes:
         raise NoTopology(f"{what_it_is(text)}; this reads what `ibnetdiscover` prints without options, or an ibsim file: "
                          'lines as \'Switch 36 "S-0002c902"\' and \'Ca 1 "H-0002c903"\', with lines as \'[1] "S-0002c902"[3]\' below them')
     return nodes
+
+
+def add_lid(node, port, line):
+    """Adds the lid that a line gives the node's own port: a switch has one, at its head."""
+    lid = OWN_LID.search(line)
+    if lid and (port == 0) == node.is_switch:
+        node.lids[port] = int(lid[1])
 
 
 def what_it_is(text):

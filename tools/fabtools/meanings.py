@@ -7,12 +7,12 @@ from fabtools import refusals
 
 # An exit status; why; what was written; what to do.
 STATUSES = [
-    (2, "the words are neither `run` nor `gen N SEED` with N 2 to 24 and SEED 0 to 1,000,000", "nothing", "`myrifab run < TEXT`, `myrifab gen 24 7`; there are no options"),
+    (2, "the words are none of `run`, `judge`, and `gen N SEED` with N 2 to 24 and SEED 0 to 1,000,000", "nothing", "`myrifab run < TEXT`, `tools/judge TEXT REPORT`, `myrifab gen 24 7`; there are no options"),
     (3, "the text is refused", "its one line", "mend [the line that it names](#the-text-is-refused)"),
     (4, "standard input can't be read", "nothing", "look at the file, the pipe, the disk"),
     (5, "standard output can't be written", "a prefix of the report", "a full disk, or a reader that closed the pipe"),
     (6, "out of memory", "a prefix of the report or nothing", "free memory, or a smaller fabric"),
-    (7, "the text has more than 1,048,576 bytes", "nothing", "cut it into runs"),
+    (7, "the text, under `judge` with its report, has more than 1,048,576 bytes", "nothing", "cut it into runs"),
     (8, "the system refuses the words, as one that isn't UTF-8", "nothing", "plain words"),
     (132, "a check of a build without proofs failed, which the proved program rules out", "a prefix of the report or nothing", "please keep the text and report it"),
 ]

@@ -81,8 +81,8 @@ class Report:
                 open_item = self.begin(line, words)
 
     def begin(self, line, words):
-        if words[0] == "map" and "asks" in words:
-            at = words.index("asks")
+        if words[0] == "map" and "asks" in words[2:]:
+            at = words.index("asks", 2)
             item = Map(line, words[1], " ".join(words[2:at]), int(words[at + 1]), int(words[at + 3]))
             self.items.append(item)
             return None if item.words == "incomplete nodes" else item

@@ -7,6 +7,8 @@ proposed() {
   echo "$*: ${COMPREPLY[*]}"
 }
 proposed myrifab r
+proposed myrifab ''
+proposed tools/judge-routes --
 proposed tools/dot examples/torus.in --lo
 proposed tools/dot examples/torus.in --layout s
 proposed tools/dot examples/ring-of-four.in --route ''

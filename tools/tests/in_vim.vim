@@ -25,6 +25,11 @@ function! Look(file) abort
   for line in ['', 'cable ', 'cable ann 0 h', 'switch hub ']
     call add(found, Proposed(2, line))
   endfor
+  syntax enable
+  call append('$', ['open ann 3 done', '# its report', 'endroutes', 'end injected 0 dropped 0'])
+  for line in [search('^host', 'cw'), search('^script', 'cw'), search('^end$', 'cw'), line('$') - 3, line('$') - 2, line('$') - 1, line('$')]
+    call add(found, getline(line) . ': ' . synIDattr(synID(line, 1, 1), 'name'))
+  endfor
   call writefile(found, a:file)
   qall!
 endfunction

@@ -4,7 +4,9 @@ use Rattle.std.specs.Prelude.{Option, Some, None, option_map}
 use Rattle.std.specs.List.{filter, list_any, range_with_len}
 use Rattle.net_defs.specs.declared.route.Route.{Route}
 use Rattle.net_defs.specs.Network.{Network}
-use Rattle.net_defs.specs.Building.{with_cable}
+use Rattle.net_defs.specs.declared.vertex.End.{End}
+use Rattle.net_defs.specs.declared.fault.GraphFault.{GraphFault}
+use Rattle.net_defs.specs.Building.{with_cable, cable_refusal}
 use Rattle.port_graph.specs.Removing.{without_cable}
 use Rattle.map_defs.specs.declared.rank.RankEntry.{RankEntry}
 use Rattle.map_defs.specs.NetMap.{NetMap, hosts_of}
@@ -62,10 +64,20 @@ abbrev pub shown_map : List Answered → Option NetMap
 shown_map [] = None
 shown_map (t ∷ before) = shown_by t.answer (shown_map before)
 
--- the fabric after an answer: without the cable that was pulled, or with the one that was plugged
+-- what takes a cable, by what refuses it: the fabric that has it, or the one before
+abbrev pub where_taken : Option GraphFault → Network → Network → Network
+where_taken None now before = now
+where_taken (Some fault) now before = before
+
+-- the fabric with a cable between two ports; itself, where one of them has a cable already
+abbrev pub plugged : Network → End → End → Network
+plugged n a b = where_taken (cable_refusal n a b) (with_cable n a b) n
+
+-- the fabric after an answer: without the cable that was pulled, or with the one that was plugged, where the fabric
+-- takes it
 abbrev pub fabric_by : Answer → Network → Network
 fabric_by (Alone (Pull at true)) n = without_cable n at
-fabric_by (Alone (Plug a b true)) n = with_cable n a b
+fabric_by (Alone (Plug a b true)) n = plugged n a b
 fabric_by a n = n
 
 -- The fabric as it stands, by the lines `pull` and `plug` so far that are `done`.

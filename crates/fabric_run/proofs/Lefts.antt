@@ -1,6 +1,5 @@
 -- Injections are left to the end of every accepted text within the limit: it has no more commands than bytes.
-use Rattle.std.proofs.Common.{◌≡◌, ◌<◌, ◌≤◌, ◌+◌, ◌^◌, ◌&&◌, ℕ, zero, suc, Bool, true, false, not, List, [], ◌∷◌, ◌++◌, length, take, drop, Result, Ok, Err, Some, refl, subst, arith, if◌then◌else◌}
-use Rattle.std.specs.List.{AllByRecursion}
+use Rattle.std.proofs.Common.{◌≡◌, ◌≤◌, ◌+◌, ◌&&◌, ℕ, zero, suc, Bool, true, false, not, List, [], ◌∷◌, length, take, drop, Result, Ok, Err, refl, subst, arith, if◌then◌else◌}
 use Rattle.net_defs.specs.Network.{Network}
 use Rattle.fab_text.specs.declared.fault.FaultKind.{FaultKind}
 use Rattle.fab_text.specs.Fault.{FirstFault, and_then, at_line}

@@ -2,6 +2,7 @@ pub mod Counting
 pub mod Duos
 pub mod Endings
 pub mod Following
+pub mod Judging
 pub mod Lefts
 pub mod Naming
 pub mod Promises

@@ -1,5 +1,5 @@
 -- Commands, lines and summaries depend on the names of a fabric, and not on its cables.
-use Rattle.std.proofs.Common.{◌≡◌, ℕ, true, nat_lt, List, ◌++◌, length, refl, sym, ap, subst, ◌∙◌}
+use Rattle.std.proofs.Common.{◌≡◌, ℕ, true, nat_lt, List, ◌++◌, length, sym, ap, subst, ◌∙◌}
 use Rattle.net_defs.specs.declared.vertex.Vertex.{Vertex}
 use Rattle.net_defs.specs.declared.vertex.Vertex.TheVariants.{Host, Switch}
 use Rattle.net_defs.specs.declared.vertex.End.{End}

@@ -1,11 +1,9 @@
 -- A report that is written command by command.
-use Rattle.std.proofs.Common.{◌≡◌, ◌<◌, ◌≤◌, true, false, Result, Ok, Err, is_err, OnErr, OnOk, true≢false, arith, ℕ, zero, suc, List, [], ◌∷◌, ◌++◌, length, take, get_or, Option, Some, None, refl, ap, sym, subst, ◌∙◌, append_assoc, append-nil}
+use Rattle.std.proofs.Common.{◌≡◌, ◌<◌, true, false, Result, Ok, Err, is_err, OnErr, OnOk, true≢false, arith, ℕ, zero, suc, List, [], ◌∷◌, ◌++◌, length, take, get_or, Option, Some, ap, sym, subst, ◌∙◌, append_assoc, append-nil}
 use Rattle.std.specs.Prelude.{slice_get}
-use Rattle.std.specs.List.{AllByRecursion}
 use Rattle.std.specs.Io.KnownBytes.{Appends}
 use Rattle.std.proofs.KnownBytes.{Appends-nil, Appends-trans}
 use Rattle.net_defs.specs.Network.{Network}
-use Rattle.fab_outer.specs.Fault.{Rose}
 use Rattle.fab_outer.specs.Whole.{TakesProperPrefix}
 use Rattle.world_defs.specs.World.{fabric_of}
 use Rattle.run_defs.specs.declared.command.Command.{Command}
@@ -21,12 +19,8 @@ use Rattle.promise_laws.specs.Duos.{IsDuoLeft}
 use Rattle.promise_laws.specs.Existence.{HasRun}
 use Rattle.run_session.specs.Obeyed.{IsObeyed}
 use Rattle.input_texts.specs.Reading.{AcceptedText}
-use Rattle.fabric_run.specs.Ends.{HasVerticesOf, HaveRun, HaveRunUpTo, IsPartOfReport, IsCutOff, IsInterrupted}
+use Rattle.fabric_run.specs.Ends.{HasVerticesOf, HaveRun, IsPartOfReport, IsHalfWritten, IsInterrupted}
 use Rattle.fabric_run.proofs.Naming.{output-named}
-
--- a count that rose since a later moment rose
-pub rose-earlier : (before between now : ℕ) → before ≤ between → Rose between now → Rose before now
-rose-earlier before between now h r = omega arith
 
 -- what an answer says at an `Err`, of one that is no `Ok`
 pub on_err : {T E : Type 0} (r : Result T E) (P : Type 0) → true ≡ is_err r → OnErr r P → P
@@ -37,12 +31,6 @@ on_err (Err x) P e h = h
 pub on_ok : {T E : Type 0} (r : Result T E) (P : Type 0) → false ≡ is_err r → OnOk r P → P
 on_ok (Ok x) P e h = h
 on_ok (Err x) P e h = absurd (true≢false (sym e))
-
--- what holds of each holds of one by its place
-pub at-place : {X : Type 0} (P : X → Type 0) (xs : List X) (i : ℕ) (x : X) → AllByRecursion P xs → i < length xs → x ≡ get_or xs i x → P x
-at-place P [] i x all h e = absurd (omega arith)
-at-place P (y ∷ ys) zero x all h e = subst P (sym e) all.0
-at-place P (y ∷ ys) (suc i) x all h e = at-place P ys i x all.1 (omega arith) e
 
 -- one more
 pub take-one : {X : Type 0} (xs : List X) (i : ℕ) (x : X) → i < length xs → x ≡ get_or xs i x → take (suc i) xs ≡ take i xs ++ x ∷ []
@@ -78,22 +66,18 @@ some-at [] i x h e = absurd (omega arith)
 some-at (y ∷ ys) zero x h e = ap Some (sym e)
 some-at (y ∷ ys) (suc i) x h e = some-at ys i x (omega arith) e
 
--- the commands before it ran
-pub up-to : (n : Network) (cs : List Command) (i : ℕ) (taken now : Option (List ℕ)) (s : SessionState) (c : Command) → i < length cs → c ≡ get_or cs i c → HaveRun n (take i cs) taken now s
-    → HaveRunUpTo (record { network = n; commands = cs }) c taken now s
-up-to n cs i taken now s c low at ran = record { count = i; is_next = some-at cs i c low at; ran = ran }
-
 -- one command more ran, and the front of its text was taken
 pub cut-ran : (n : Network) (cs : List Command) (i : ℕ) (taken between now : Option (List ℕ)) (s next : SessionState) (c : Command) (p : PrintedState) → i < length cs → c ≡ get_or cs i c
     → HaveRun n (take i cs) taken between s → HasVerticesOf n s → IsObeyed s c next p → TakesProperPrefix between now p.text
-    → IsCutOff (record { network = n; commands = cs }) taken now next
+    → IsHalfWritten (record { network = n; commands = cs }) taken now next
 cut-ran n cs i taken between now s next c p low at ran same does took = record {
   command = c;
   session = s;
-  middle = between;
-  before = up-to n cs i taken between s c low at ran;
+  before = record { count = i; printed = ran.output; run = ran.run; there = some-at cs i c low at };
   output = does.output;
   does = does.does;
+  middle = between;
+  took_before = ran.took;
   took = subst (TakesProperPrefix between now) (ap (λ (q : PrintedState). q.text) does.printed ∙ output-named n s does.output same) took;
 }
 
@@ -103,7 +87,8 @@ pub interrupted : (n : Network) (cs : List Command) (i : ℕ) (taken now : Optio
 interrupted n cs i taken now s t c low at ran cut made found duo = record {
   command = c;
   session = s;
-  before = up-to n cs i taken now s c low at ran;
+  before = record { count = i; printed = ran.output; run = ran.run; there = some-at cs i c low at };
+  took = ran.took;
   cut = cut;
   map_stays = made;
   routes_stay = found;
@@ -132,30 +117,20 @@ take-next (y ∷ ys) zero x e = let same : y ≡ x = cc in ap (λ z. z ∷ []) s
 take-next (y ∷ ys) (suc i) x e = ap (λ zs. y ∷ zs) (take-next ys i x e)
 
 -- a prefix of the report was taken before a failed write
-pub cut-part : (a : AcceptedText) (taken now : Option (List ℕ)) (last : SessionState) → HasRun a.network a.commands → IsCutOff a taken now last → IsPartOfReport a taken now
-cut-part a taken now last r k =
+pub half-part : (a : AcceptedText) (taken now : Option (List ℕ)) (last : SessionState) → HasRun a.network a.commands → IsHalfWritten a taken now last → IsPartOfReport a taken now
+half-part a taken now last r k =
     let n : Network = a.network in
     let b = k.before in
-    let first : List ℕ = output_text n b.ran.output in
-    let run : IsRun n (take (suc b.count) a.commands) (b.ran.output ++ k.output) last =
-    subst (λ l. IsRun n l (b.ran.output ++ k.output) last) (sym (take-next a.commands b.count k.command b.is_next)) (runs-more k.command k.output b.ran.run k.does) in
-    let whole : output_text n (b.ran.output ++ k.output) ≡ (first ++ k.took.0) ++ k.took.1 =
-    text_of_both n b.ran.output k.output ∙ ap (λ l. first ++ l) k.took.2 ∙ sym (append_assoc first k.took.0 k.took.1) in
-    part-of-all a r (suc b.count) taken now last (b.ran.output ++ k.output) (first ++ k.took.0) k.took.1 run whole (Appends-trans taken k.middle now first k.took.0 b.ran.took k.took.4)
+    let first : List ℕ = output_text n b.printed in
+    let run : IsRun n (take (suc b.count) a.commands) (b.printed ++ k.output) last =
+    subst (λ l. IsRun n l (b.printed ++ k.output) last) (sym (take-next a.commands b.count k.command b.there)) (runs-more k.command k.output b.run k.does) in
+    let whole : output_text n (b.printed ++ k.output) ≡ (first ++ k.took.0) ++ k.took.1 =
+    text_of_both n b.printed k.output ∙ ap (λ l. first ++ l) k.took.2 ∙ sym (append_assoc first k.took.0 k.took.1) in
+    part-of-all a r (suc b.count) taken now last (b.printed ++ k.output) (first ++ k.took.0) k.took.1 run whole (Appends-trans taken k.middle now first k.took.0 k.took_before k.took.4)
 
 -- and before memory ran out
 pub interrupted-part : (a : AcceptedText) (taken now : Option (List ℕ)) (left : SessionState) → HasRun a.network a.commands → IsInterrupted a taken now left → IsPartOfReport a taken now
 interrupted-part a taken now left r k =
-    let ran = k.before.ran in
-    let printed : List ℕ = output_text a.network ran.output in
-    part-of-all a r k.before.count taken now k.session ran.output printed [] ran.run (sym (append-nil printed)) ran.took
-
--- all commands ran
-pub all-ran : (n : Network) (cs : List Command) (i : ℕ) (taken now : Option (List ℕ)) (s : SessionState) → length cs ≤ i → HaveRun n (take i cs) taken now s → HaveRun n cs taken now s
-all-ran n cs i taken now s e ran = subst (λ l. HaveRun n l taken now s) (take-all cs i e) ran
-  where
-    take-all : {X : Type 0} (xs : List X) (i : ℕ) → length xs ≤ i → take i xs ≡ xs
-    take-all [] zero h = refl
-    take-all [] (suc i) h = refl
-    take-all (x ∷ xs) zero h = absurd (omega arith)
-    take-all (x ∷ xs) (suc i) h = ap (λ l. x ∷ l) (take-all xs i (omega arith))
+    let b = k.before in
+    let printed : List ℕ = output_text a.network b.printed in
+    part-of-all a r b.count taken now k.session b.printed printed [] b.run (sym (append-nil printed)) k.took

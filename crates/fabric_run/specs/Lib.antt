@@ -2,6 +2,7 @@ pub mod Duos
 pub mod Ends
 pub mod Following
 pub mod Generated
+pub mod Judged
 pub mod Left
 pub mod Lines
 pub mod Promise

@@ -10,18 +10,22 @@
 //!                          |                   ^          |
 //!                          +--> refused        +----------+
 //!
+//!   words -> text -> fabric, commands and report -> verdict -> sink
+//!
 //!   words -> hosts and seed -> their text -> .. -> figures -> summary -> sink
 //! ```
 //!
 //! | module | has |
 //! |---|---|
 //! | `top` | `run`, and how it ends |
+//! | `judged` | the judgement of a report after its text, and its line |
 //! | `generated` | the run of a generated text, and its summary |
 //! | `promise` | what every accepted text promises, and what follows |
 //! | `status`, `ran` | how a run ended, and what it hands back |
 #![tactic(auto)]
 
 mod generated;
+mod judged;
 mod promise;
 mod ran;
 mod status;

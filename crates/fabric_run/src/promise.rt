@@ -4,7 +4,7 @@
 ghost use Rattle.std.specs.Prelude.{ℕ, ◌≤◌, List, length, Option};
 ghost use Rattle.run_defs.specs.Session.{SessionState};
 ghost use Rattle.input_texts.specs.Reading.{AcceptedText, IsAccepted, input_limit};
-ghost use Rattle.fabric_run.specs.Ends.{IsCutOff, IsInterrupted, IsPartOfReport};
+ghost use Rattle.fabric_run.specs.Ends.{IsHalfWritten, IsInterrupted, IsPartOfReport};
 ghost use Rattle.fabric_run.specs.Following.{HasSoundMoments, HasMetFaults};
 ghost use Rattle.fabric_run.specs.Promise.{IsPromised};
 ghost use Rattle.fabric_run.specs.Left.{InjectionsAreLeft};
@@ -28,7 +28,7 @@ pub fn what_promises_imply()
     ensures moments { (a : AcceptedText) → IsPromised a → HasSoundMoments a }
     ensures met_faults { (a : AcceptedText) → IsPromised a → InjectionsAreLeft a → HasMetFaults a }
     ensures cut_off { (a : AcceptedText) (taken now : Option (List ℕ)) (last : SessionState) → IsPromised a
-        → IsCutOff a taken now last → IsPartOfReport a taken now }
+        → IsHalfWritten a taken now last → IsPartOfReport a taken now }
     ensures interrupted { (a : AcceptedText) (taken now : Option (List ℕ)) (left : SessionState) → IsPromised a
         → IsInterrupted a taken now left → IsPartOfReport a taken now }
 {}

@@ -1,6 +1,6 @@
 //! The top call.
 
-ghost use Rattle.std.specs.Prelude.{◌≡◌, ◌≤◌, ◌⊎◌, ℕ, List, length, IfSome, Ok, Err};
+ghost use Rattle.std.specs.Prelude.{◌≡◌, ◌≤◌, ◌⊎◌, ℕ, List, length, IfSome, Some, Ok, Err};
 ghost use Rattle.std.specs.List.{AllByRecursion};
 ghost use Rattle.fab_outer.specs.Fault.{Rose};
 ghost use Rattle.world_defs.specs.World.{fabric_of};
@@ -9,10 +9,12 @@ ghost use Rattle.fab_script.specs.Ranges.{IsCommandOf};
 ghost use Rattle.input_texts.specs.Reading.{AcceptedText, input_limit, reading, IsAccepted};
 ghost use Rattle.fabric_run.specs.Promise.{IsPromised};
 ghost use Rattle.fabric_run.specs.Left.{InjectionsAreLeft};
-ghost use Rattle.input_texts.specs.Forms.{form_of, IsRunForm};
-ghost use Rattle.fabric_run.specs.Ends.{own_answer, SaidEnds, InputEnds, RunEnds};
+ghost use Rattle.input_texts.specs.Forms.{form_of, IsRunForm, IsJudgeForm};
+ghost use Rattle.fabric_run.specs.Judged.{own_judgement};
+ghost use Rattle.fabric_run.specs.Ends.{own_answer, SaidEnds, RunEnds};
 
 use crate::generated::run_generated;
+use crate::judged::judge_input;
 use crate::promise::{left_injections, promised_texts};
 use crate::ran::Ran;
 use crate::status::Status;
@@ -23,22 +25,26 @@ use run_session::{Command, Session};
 use std::alloc::Global;
 
 // The most bytes of an input.
-const MAX_INPUT: usize = 1048576;
+pub(crate) const MAX_INPUT: usize = 1048576;
 
 /// Does what the words of a command line ask for.
 ///
 /// Under `run` it reads a text to its end, and writes the report of its script, each command's lines once it has run,
-/// or the one line of a text that is refused, which reports the first fault. Under `gen N SEED` it reads nothing: it
-/// runs the text of N hosts and the seed, and writes the summary of its report once all commands ran. The session of
-/// the script is handed back.
+/// or the one line of a text that is refused, which reports the first fault. Under `judge` it reads a text with the
+/// report that follows it, runs nothing, and writes the one line of the verdict, or that of a text that is refused.
+/// Under `gen N SEED` it reads nothing: it runs the text of N hosts and the seed, and writes the summary of its report
+/// once all commands ran. The session of the script is handed back.
 pub fn run<S: Source, K: Sink>(alloc: Global, words: &[Word], input: &mut S, out: &mut K) -> Ran
     // How it ends, by its words and its answer: what was read, what the sink took, and which session is handed back.
     // Exactly where the words are none of the forms the answer is `Usage`, and nothing is done. Under `run` a text is
-    // read whole, or not at all where memory ran out; of an accepted one the sink took exactly what the commands that
-    // ran printed, but for the end of the last one's text where a write failed, and the session is theirs, with the next
-    // command cut short where memory ran out for it; of a refused one it took the line of the first fault, and after a
-    // failed write a prefix of that, not the whole. Under `gen N SEED` nothing is read, and the sink took the summary of
-    // the run of the text of N and SEED, a prefix of it, not the whole, before a failed write, or nothing.
+    // read whole, or not at all where memory ran out. Of an accepted one the sink took exactly what the commands that
+    // ran printed, but for the end of the last one's text where a write failed; the session is theirs, with the next
+    // command cut short where memory ran out for it. Of a refused one it took the line of the first fault, and after a
+    // failed write a prefix of that, not the whole. Under `judge` the same is read, nothing is run, and the sink took
+    // the line of the right verdict, yes where all that is judged holds, else the first line that fails and what fails
+    // there, or that of the first fault of the part up to `end`. Under `gen N SEED` nothing is read, and the sink took
+    // the summary of the run of the text of N and SEED, a prefix of it, not the whole, before a failed write, or
+    // nothing.
     ensures ends { RunEnds (form_of words.now)
         (input.new ≡ input.old)
         (out.new ≡ out.old)
@@ -62,6 +68,11 @@ pub fn run<S: Source, K: Sink>(alloc: Global, words: &[Word], input: &mut S, out
     ensures own_answer { IsRunForm words.now → ¬ Rose (S.faults input.old) (S.faults input.new)
         → ¬ Rose (K.faults out.old) (K.faults out.new)
         → IfSome (S.left input.old) (λ text. (result.status ≡ own_answer text) ⊎ (result.status ≡ Status.NoMemory)) }
+
+    // And so it is under `judge` with the text and its report.
+    ensures own_judgement { IsJudgeForm words.now → ¬ Rose (S.faults input.old) (S.faults input.new)
+        → ¬ Rose (K.faults out.old) (K.faults out.new)
+        → IfSome (S.left input.old) (λ text. (result.status ≡ own_judgement text) ⊎ (result.status ≡ Status.NoMemory)) }
 
     // Every accepted text, and so every prefix of its script, keeps the promise. It has one run. Each command does one
     // thing, by acts that may happen, each one action of one host, of one channel or of one cable; and what its lines
@@ -88,6 +99,7 @@ pub fn run<S: Source, K: Sink>(alloc: Global, words: &[Word], input: &mut S, out
     left_injections();
     match form_of(words) {
         Some(Form::Run) => run_input(alloc, input, out),
+        Some(Form::Judge) => judge_input(alloc, input, out),
         Some(Form::Gen { n, seed }) => run_generated(alloc, n, seed, out),
         None => Ran::without_session(Status::Usage),
     }
@@ -95,7 +107,7 @@ pub fn run<S: Source, K: Sink>(alloc: Global, words: &[Word], input: &mut S, out
 
 // Reads the whole input and does what it says.
 fn run_input<S: Source, K: Sink>(alloc: Global, input: &mut S, out: &mut K) -> Ran
-    ensures ends { InputEnds
+    ensures ends { RunEnds (Some Form.Run)
         (input.new ≡ input.old)
         (out.new ≡ out.old)
         record {
@@ -179,8 +191,8 @@ fn run_commands<K: Sink>(
     Ran::with_session(Status::Done, session)
 }
 
-// Writes the line of a text that isn't accepted.
-fn write_refusal<K: Sink>(alloc: Global, line: u32, kind: FaultKind, out: &mut K) -> Ran
+/// Writes the line of a text that isn't accepted.
+pub(crate) fn write_refusal<K: Sink>(alloc: Global, line: u32, kind: FaultKind, out: &mut K) -> Ran
     ensures ends { SaidEnds (Err (record { line = line; kind = kind })) (out.new ≡ out.old)
         (K.taken out.old) (K.taken out.new) result.status result.session }
     ensures write_fault { result.status ≡ Status.WriteFault → Rose (K.faults out.old) (K.faults out.new) }

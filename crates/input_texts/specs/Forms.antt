@@ -4,7 +4,7 @@ use Rattle.std.specs.Prelude.{Err, bytes_eq, codes}
 use Rattle.fab_text.specs.declared.fault.NumFault.{NumFault}
 use Rattle.fab_text.specs.Word.{u32_of}
 use Rattle.input_texts.specs.declared.form.Form.{Form}
-use Rattle.input_texts.specs.declared.form.Form.TheVariants.{Run, Gen}
+use Rattle.input_texts.specs.declared.form.Form.TheVariants.{Run, Judge, Gen}
 
 -- a number that was read, where it is one from the least to the most
 abbrev pub within : ℕ → ℕ → Result ℕ NumFault → Option ℕ
@@ -25,19 +25,20 @@ abbrev pub gen_form : List (List ℕ) → Option Form
 gen_form (n ∷ seed ∷ []) = gen_of (number_from 2 24 n) (number_from 0 1000000 seed)
 gen_form _ = None
 
--- `run` stands alone
-abbrev pub run_form : List (List ℕ) → Option Form
-run_form [] = Some Run
-run_form (word ∷ words) = None
+-- `run` and `judge` stand alone
+abbrev pub alone_form : Form → List (List ℕ) → Option Form
+alone_form form [] = Some form
+alone_form form (word ∷ words) = None
 
 -- what words ask for, by the first of them
 abbrev pub form_by : List ℕ → List (List ℕ) → Option Form
 form_by first others =
-    if bytes_eq first (codes "run") then run_form others
+    if bytes_eq first (codes "run") then alone_form Run others
+    else if bytes_eq first (codes "judge") then alone_form Judge others
     else if bytes_eq first (codes "gen") then gen_form others
     else None
 
--- What words ask for: `run`, or `gen N SEED`; none where they are none of the forms.
+-- What words ask for: `run`, `judge`, or `gen N SEED`; none where they are none of the forms.
 abbrev pub form_of : List (List ℕ) → Option Form
 form_of [] = None
 form_of (first ∷ others) = form_by first others
@@ -45,11 +46,16 @@ form_of (first ∷ others) = form_by first others
 -- the numbers of a form are of their ranges
 abbrev pub IsInRange : Form → Type 0
 IsInRange Run = Unit {0}
+IsInRange Judge = Unit {0}
 IsInRange (Gen n seed) = (2 ≤ n) × (n ≤ 24) × (seed ≤ 1000000)
 
 -- the words ask for the run of a text
 abbrev pub IsRunForm : List (List ℕ) → Type 0
 IsRunForm words = form_of words ≡ Some Run
+
+-- the words ask for the judgement of a report after its text
+abbrev pub IsJudgeForm : List (List ℕ) → Type 0
+IsJudgeForm words = form_of words ≡ Some Judge
 
 -- the words ask for the run of the text of so many hosts and this seed
 abbrev pub IsGenForm : List (List ℕ) → ℕ → ℕ → Type 0

@@ -1,7 +1,7 @@
 //! What the words of a command line ask for.
 
 ghost use Rattle.std.specs.Prelude.{◌≡◌, ◌≤◌, IfSome};
-ghost use Rattle.input_texts.specs.Forms.{form_of, form_by, run_form, gen_form, gen_of, number_from, IsInRange};
+ghost use Rattle.input_texts.specs.Forms.{form_of, form_by, alone_form, gen_form, gen_of, number_from, IsInRange};
 
 use fab_text::{Word, read_u32};
 
@@ -18,6 +18,8 @@ const GREATEST_SEED: u32 = 1_000_000;
 pub enum Form {
     /// The words `run`: a text is read and run.
     Run,
+    /// The words `judge`: a text is read with the report that follows it, and the report is judged.
+    Judge,
     /// The words `gen N SEED`: the text of a generated run is made and run.
     Gen {
         /// Its hosts, 2 to 24.
@@ -44,7 +46,9 @@ fn form_by(first: &[u8], others: &[Word]) -> Option<Form>
     ensures range { IfSome result IsInRange }
 {
     if first == b"run".as_slice() {
-        run_form(others)
+        alone_form(Form::Run, others)
+    } else if first == b"judge".as_slice() {
+        alone_form(Form::Judge, others)
     } else if first == b"gen".as_slice() {
         gen_form(others)
     } else {
@@ -52,16 +56,13 @@ fn form_by(first: &[u8], others: &[Word]) -> Option<Form>
     }
 }
 
-// `run` stands alone.
-fn run_form(others: &[Word]) -> Option<Form>
-    ensures form { result ≡ run_form others.now }
+// `run` and `judge` stand alone.
+fn alone_form(form: Form, others: &[Word]) -> Option<Form>
+    requires { IsInRange form }
+    ensures form { result ≡ alone_form form others.now }
     ensures range { IfSome result IsInRange }
 {
-    if others.is_empty() {
-        Some(Form::Run)
-    } else {
-        None
-    }
+    if others.is_empty() { Some(form) } else { None }
 }
 
 // After `gen` stand two numbers.

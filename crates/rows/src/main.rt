@@ -3,8 +3,8 @@
 //!
 //! The texts lie in `data/`, as files that `worked_texts` describes. A line is printed for each run, by name: `ok
 //! NAME`, or `failed NAME` with the first difference. A file that belongs to no text, and a text without its report,
-//! fail too. More runs, whose outcome a rule gives, let reads and writes fail, read the longest input, and make a
-//! text anew. The last line counts, and the exit status is 0 only where nothing failed.
+//! fail too. More runs, whose outcome a rule gives, let reads and writes fail, read the longest input, make a text
+//! anew, and judge each report. The last line counts, and the exit status is 0 only where nothing failed.
 #![tactic(auto)]
 
 use fab_outer::{MemSink, MemSource};
@@ -13,7 +13,7 @@ use fabric_run::run;
 use std::alloc::Global;
 use std::io;
 use std::process::ExitCode;
-use worked_texts::{Tally, TopCall, try_ends, try_files, try_generated, try_limit};
+use worked_texts::{Tally, TopCall, try_ends, try_files, try_generated, try_limit, try_reports};
 
 // The program's own top call.
 struct Top;
@@ -42,6 +42,7 @@ fn try_all(rt: &HostRuntime) -> io::Result<Tally> {
     try_ends::<Top>(rt, &mut tally)?;
     try_limit::<Top>(rt, &mut tally)?;
     try_generated(rt, &mut tally)?;
+    try_reports::<Top>(rt, &mut tally)?;
     println!(rt; "{} passed, {} failed", tally.passed, tally.failed)?;
     Ok(tally)
 }

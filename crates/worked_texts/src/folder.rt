@@ -22,8 +22,8 @@ pub fn try_files<T: TopCall>(rt: &HostRuntime, tally: &mut Tally) -> io::Result<
     Ok(())
 }
 
-// The names of all files, in order.
-fn files(rt: &HostRuntime) -> io::Result<Vec<String>> {
+/// The names of all files, in order.
+pub(crate) fn files(rt: &HostRuntime) -> io::Result<Vec<String>> {
     let mut files = Vec::new(rt.alloc());
     for entry in fs::read_dir(rt, ".")? {
         files.push(String::from_str(rt.alloc(), entry?.file_name())?)?;

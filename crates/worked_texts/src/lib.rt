@@ -9,15 +9,18 @@
 //! | `ends` | texts whose reads and writes fail, one after another |
 //! | `limit` | the longest input, and one that is longer |
 //! | `generated` | a generated text, compared |
+//! | `reports` | the reports of the folder, judged |
 #![tactic(auto)]
 
 mod ends;
 mod folder;
 mod generated;
 mod limit;
+mod reports;
 
 pub use ends::try_ends;
 pub use folder::try_files;
 pub use generated::try_generated;
 pub use limit::try_limit;
+pub use reports::try_reports;
 pub use text_trials::{Tally, TopCall};

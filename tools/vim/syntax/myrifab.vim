@@ -8,12 +8,14 @@ syntax case match
 syntax match myrifabComment '^\s*#.*$'
 syntax match myrifabUnknown '^\s*[^[:blank:]#]\S*'
 syntax match myrifabFabric '^\s*\%(host\|switch\|cable\)\>'
-syntax match myrifabPart '^\s*\%(script\|end\)\s*$'
+syntax match myrifabPart '^\s*script\s*$'
 syntax match myrifabCommand '^\s*\%(walk\|map\|circuit\|routes\|install\|settle\|pull\|plug\|broken\|revoke\)\>'
 syntax match myrifabClient '^\s*\%(open\|provide\|send\|poll\|tokens\|close\)\>'
 syntax match myrifabEvent '^\s*plan\s\+\%(lose\|repeat\|hold\|flip\|pull\)\>'
 syntax match myrifabEvent '^\s*step\s\+\%(inject\|giveup\|expire\|advance\|lose\|repeat\|hold\|reset\|flip\|replay\)\>'
 syntax match myrifabEvent '^\s*duo\s\+\%(send\|provide\|emit\|deliver\|expire\|poll\|restart\)\>'
+" What follows the line `end` is a report that is judged, and no line of the text.
+syntax region myrifabReport matchgroup=myrifabPart start='^\s*end\s*$' end='\%$' contains=myrifabComment,myrifabNumber
 syntax match myrifabNumber '\s\zs[+-]\?\d\+\ze\%(\s\|$\)'
 
 highlight default link myrifabComment Comment
@@ -24,5 +26,6 @@ highlight default link myrifabCommand Statement
 highlight default link myrifabClient Function
 highlight default link myrifabEvent Special
 highlight default link myrifabNumber Number
+highlight default link myrifabReport Normal
 
 let b:current_syntax = 'myrifab'

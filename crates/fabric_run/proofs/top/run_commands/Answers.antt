@@ -10,7 +10,7 @@ use Rattle.fabric_run.specs.Ends.{HaveRun}
 use Rattle.fabric_run.specs.declared.status.Status.TheVariants.{WriteFault, NoMemory}
 use Rattle.fabric_run.proofs.Endings.{said-so}
 use Rattle.fabric_run.proofs.Naming.{on-vertices}
-use Rattle.fabric_run.proofs.Writing.{none-ran, more-ran, cut-ran, interrupted, rose-earlier, on_err, on_ok}
+use Rattle.fabric_run.proofs.Writing.{none-ran, more-ran, cut-ran, interrupted, on_err, on_ok}
 use Rattle.fabric_run.proofs.top.run_commands.Goals as goal
 
 pub loop-command-init : goal.loop-command-init
@@ -45,10 +45,6 @@ returns-then-is_err-clause-ends g c =
     c.with_session-then-is_err.ensures.status c.with_session-then-is_err.ensures.some
     (cut-ran n cs c.loop-command.command-index _ _ _ c.loop-command.session c.in-Ok.next c.command-item.result p
     c.loop-command-test.true c.command-item.is c.loop-command.invariant.ran c.loop-command.invariant.vertices obeyed.1 part)
-
-pub returns-then-is_err-clause-write_fault : goal.returns-then-is_err-clause-write_fault
-returns-then-is_err-clause-write_fault g c =
-    λ e. rose-earlier _ _ _ c.loop-command.invariant.later (on_err c.write_all.result _ c.if-is_err.ensures.value c.write_all.ensures.cause.failed)
 
 pub loop-command-preserved : goal.loop-command-preserved
 loop-command-preserved g c =

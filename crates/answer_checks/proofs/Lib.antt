@@ -1,0 +1,4 @@
+pub mod Telling
+pub mod Pairs
+pub mod Astray
+pub mod Below

@@ -1,0 +1,13 @@
+pub mod AnswerLines
+pub mod Blocks
+pub mod Indexing
+pub mod Judged
+pub mod Lists
+pub mod Next
+pub mod PairLines
+pub mod RankLines
+pub mod RouteLines
+pub mod Steps
+pub mod TableLines
+pub mod Texts
+pub mod Verdicts

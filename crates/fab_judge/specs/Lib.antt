@@ -1,0 +1,6 @@
+pub mod Answers
+pub mod Blocks
+pub mod Judging
+pub mod Past
+pub mod Reading
+pub mod Verdicts

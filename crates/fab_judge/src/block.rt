@@ -1,0 +1,51 @@
+//! Which lines follow an answer's first line.
+
+ghost use Rattle.std.specs.Prelude.{◌≡◌};
+ghost use Rattle.fab_judge.specs.Blocks.{block_in, block_of_map};
+
+use line_forms::{MapSaid, ReportLine};
+
+/// The lines that follow a first line.
+#[derive(Clone, Copy, Debug, PartialEq, Eq)]
+pub(crate) enum Block {
+    /// Those of a map.
+    Map,
+    /// So many routes, their ranks, and `endroutes`.
+    Routes(u64),
+    /// The tables of so many hosts.
+    Tables(u64),
+    /// Broken routes after the one of this sender and this receiver, and `endbroken`.
+    Broken(u16, u16),
+    /// None: no route is broken.
+    NoneBroken,
+    /// None; or broken routes, where the words of the refusal are two hosts.
+    Refused,
+    /// None.
+    Nothing,
+}
+
+/// The lines that follow a first line.
+pub(crate) fn block_in(line: &ReportLine) -> Block
+    ensures { result ≡ block_in line.now }
+{
+    match line {
+        ReportLine::Map { said, .. } => block_of_map(*said),
+        ReportLine::Circuit { .. } => Block::Map,
+        ReportLine::Routes(count) => Block::Routes(*count),
+        ReportLine::Installed(count) => Block::Tables(*count),
+        ReportLine::Broken { from, to } => Block::Broken(*from, *to),
+        ReportLine::EndBroken => Block::NoneBroken,
+        ReportLine::NoBroken => Block::Refused,
+        _ => Block::Nothing,
+    }
+}
+
+// The lines that follow the line of a map.
+fn block_of_map(said: MapSaid) -> Block
+    ensures { result ≡ block_of_map said }
+{
+    match said {
+        MapSaid::Overgrown => Block::Nothing,
+        _ => Block::Map,
+    }
+}

@@ -1,0 +1,133 @@
+//! The tables of an installation.
+
+ghost use Rattle.std.specs.Prelude.{◌≡◌, IfOk, Some, None};
+ghost use Rattle.judge_defs.specs.Form.{next_due, table_due, rising_table_due, is_address_above, table_lines};
+ghost use Rattle.judge_defs.specs.Form.{rising_tables, tables_of};
+ghost use Rattle.fab_judge.specs.Reading.{Gives, Passes, HasRead};
+
+use crate::reader::Reader;
+use crate::stop::Unread;
+use answer_checks::Hosts;
+use line_forms::ReportLine;
+use port_graph::Fabric;
+
+/// Reads the tables of so many hosts: of these, or, where none are known, of any by rising address. The line that says
+/// how many has this number.
+pub(crate) fn read_tables(
+    f: &Fabric,
+    reader: &mut Reader,
+    number: u32,
+    count: u64,
+    routed: &Option<Hosts>,
+) -> Result<(), Unread>
+    ensures said { Passes (tables_of number count routed.now reader.old.past f.now reader.old.left)
+        reader.new.left result }
+    ensures read { IfOk result (λ _. HasRead reader.old reader.new 0) }
+{
+    match routed {
+        Some(hosts) => read_counted_tables(f, reader, number, count, hosts.list()),
+        None => read_rising_tables(f, reader, count),
+    }
+}
+
+// Reads the tables of these hosts, where there are so many.
+fn read_counted_tables(
+    f: &Fabric,
+    reader: &mut Reader,
+    number: u32,
+    count: u64,
+    hosts: &[u16],
+) -> Result<(), Unread>
+    ensures said { Passes (tables_of number count (Some hosts.now) reader.old.past f.now reader.old.left)
+        reader.new.left result }
+    ensures read { IfOk result (λ _. HasRead reader.old reader.new 0) }
+{
+    if count == hosts.len() as u64 {
+        read_tables_of(f, reader, hosts)
+    } else {
+        Err(Unread::At(number))
+    }
+}
+
+// Reads the tables of these hosts.
+fn read_tables_of(f: &Fabric, reader: &mut Reader, hosts: &[u16]) -> Result<(), Unread>
+    ensures said { Passes (table_lines hosts.now reader.old.past f.now reader.old.left) reader.new.left result }
+    ensures read { IfOk result (λ _. HasRead reader.old reader.new 0) }
+{
+    'lines: for due in hosts {
+        let _host = read_table(f, reader, *due)?;
+    }
+    Ok(())
+}
+
+// Reads the table of a host.
+fn read_table(f: &Fabric, reader: &mut Reader, due: u16) -> Result<u16, Unread>
+    ensures said { Gives (next_due (table_due due) reader.old.past f.now reader.old.left) reader.new.left result }
+    ensures read { IfOk result (λ _. HasRead reader.old reader.new 1) }
+{
+    match reader.next_said(f) {
+        Ok((number, line)) => match table_due(due, &line) {
+            Some(host) => Ok(host),
+            None => Err(Unread::At(number)),
+        },
+        Err(stop) => Err(stop),
+    }
+}
+
+// The host of a table, where it is due.
+fn table_due(due: u16, line: &ReportLine) -> Option<u16>
+    ensures { result ≡ table_due due line.now }
+{
+    match line {
+        ReportLine::Table(host) if *host == due => Some(*host),
+        _ => None,
+    }
+}
+
+// Reads so many tables, whose hosts rise.
+fn read_rising_tables(f: &Fabric, reader: &mut Reader, count: u64) -> Result<(), Unread>
+    ensures said { Passes (rising_tables count None reader.old.past f.now reader.old.left) reader.new.left result }
+    ensures read { IfOk result (λ _. HasRead reader.old reader.new 0) }
+{
+    let mut before = None;
+    'lines: for _read in 0..count {
+        let host = read_rising_table(f, reader, before)?;
+        before = Some(host);
+    }
+    Ok(())
+}
+
+// Reads the table of a host above the one before it.
+fn read_rising_table(f: &Fabric, reader: &mut Reader, before: Option<u16>) -> Result<u16, Unread>
+    ensures said { Gives (next_due (rising_table_due before) reader.old.past f.now reader.old.left) reader.new.left
+        result }
+    ensures read { IfOk result (λ _. HasRead reader.old reader.new 1) }
+{
+    match reader.next_said(f) {
+        Ok((number, line)) => match rising_table_due(before, &line) {
+            Some(host) => Ok(host),
+            None => Err(Unread::At(number)),
+        },
+        Err(stop) => Err(stop),
+    }
+}
+
+// The host of a table, where it is above the one before it.
+fn rising_table_due(before: Option<u16>, line: &ReportLine) -> Option<u16>
+    ensures { result ≡ rising_table_due before line.now }
+{
+    match line {
+        ReportLine::Table(host) if is_address_above(before, *host) => Some(*host),
+        _ => None,
+    }
+}
+
+// Whether an address is above the one before it.
+fn is_address_above(before: Option<u16>, host: u16) -> bool
+    ensures { result ≡ is_address_above before host }
+{
+    match before {
+        Some(b) => b < host,
+        None => true,
+    }
+}

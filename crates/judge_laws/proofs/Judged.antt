@@ -1,0 +1,132 @@
+-- Whatever a run without the two hosts that restart prints is judged yes.
+use Rattle.std.proofs.Common.{◌≡◌, ◌++◌, ℕ, true, List, [], ◌∷◌, length, replicate, get_or, Option, Some, None, refl, sym, ap, ◌∙◌, subst, true≢false}
+use Rattle.std.specs.List.{AllByRecursion}
+use Rattle.net_defs.specs.Network.{Network, IsFabric}
+use Rattle.cable_history.proofs.First.{first_stands}
+use Rattle.gm_defs.specs.Token.{PortState}
+use Rattle.journal_defs.proofs.Members.{all-join}
+use Rattle.fabric_file.specs.Reading.{AreNamed}
+use Rattle.fab_script.specs.Ranges.{IsCommandOf}
+use Rattle.world_defs.specs.declared.event.Event.TheVariants.{Begin as BeginEvent, Close as CloseEvent, Provide as ProvideEvent, Send as SendEvent, Poll as PollEvent}
+use Rattle.world_defs.specs.Client.{Called, begun, closed, provided_by, sent_by, polled_by}
+use Rattle.world_defs.specs.Node.{new_node, port_at, port_count}
+use Rattle.world_defs.specs.World.{new_world, node_at, client_at}
+use Rattle.world_defs.specs.Step.{wanted, step}
+use Rattle.world_defs.proofs.Lists.{each-replicate}
+use Rattle.run_defs.specs.declared.command.Command.{Command}
+use Rattle.run_defs.specs.declared.command.Command.TheVariants.{Walk, Map, Circuit, Routes, Install, Begin, Close, Poll, Tokens, Provide, Send, Plan, Step, Settle, Finish, Duo, Pull, Plug, Revoke, Broken}
+use Rattle.run_defs.specs.declared.line.ClientCall.TheVariants.{Begin as BeginCall, Close as CloseCall, Provide as ProvideCall, Send as SendCall, Poll as PollCall}
+use Rattle.run_defs.specs.LineText.{output_text}
+use Rattle.run_defs.specs.Outcome.{Outcome, called, says_only, token_lines, outcome}
+use Rattle.run_defs.specs.Output.{Piece}
+use Rattle.run_defs.specs.Session.{SessionState, new_session}
+use Rattle.run_defs.specs.Outcome.{routes_refused}
+use Rattle.run_defs.specs.Run.{Does, Runs, IsRun}
+use Rattle.run_defs.specs.Run.Does.{determined, maps, circuits, routes}
+use Rattle.run_defs.specs.Run.Runs.{ended as run_ended, goes_on as run_goes_on}
+use Rattle.run_laws.proofs.RunsOnce.{runs-more, text_of_both}
+use Rattle.answer_defs.specs.Answer.{Answered, answered}
+use Rattle.judge_defs.specs.Form.{known_by}
+use Rattle.judge_defs.specs.Verdict.{AreJudgedYes}
+use Rattle.judge_defs.specs.Verdict.AreJudgedYes.{ended, goes_on}
+use Rattle.judge_laws.specs.Answers.{lines_at}
+use Rattle.judge_laws.specs.Commands.{PlansNoPull, is_judged}
+use Rattle.judge_laws.specs.Reports.{ReportsAreJudgedYes}
+use Rattle.judge_laws.proofs.Answering.{answer-first}
+use Rattle.judge_laws.proofs.Calling.{call-next, tokens-next}
+use Rattle.judge_laws.proofs.Calls.{begun-is, closed-is, provided-is, sent-is, polled-is}
+use Rattle.judge_laws.proofs.Counts.{counts}
+use Rattle.judge_laws.proofs.Messages.{none-messages}
+use Rattle.judge_laws.proofs.Ports.{open_by}
+use Rattle.judge_laws.proofs.Tracked.{IsFollowed, IsNext, network-next}
+
+-- what a command does where it is determined
+as-done : {s next : SessionState} {c : Command} {out : List Piece} → Does s c out next → (o : Outcome) → outcome s c ≡ Some o → (out ≡ o.output) × (next ≡ o.after)
+as-done {next = next} {out = out} (determined e) o g =
+    let one : ◌≡◌ {A = Option Outcome} (Some (record { output = out; after = next })) (Some o) = sym e ∙ g in
+    let same : ◌≡◌ {A = Outcome} (record { output = out; after = next }) o = cc in
+    (ap (λ (x : Outcome). x.output) same, ap (λ (x : Outcome). x.after) same)
+as-done (maps after j m words none made is left) o g = let one : ◌≡◌ {A = Option Outcome} None (Some o) = sym none ∙ g in cc
+as-done (circuits is left) o g = cc
+as-done {s = s} (routes l found complete are is left) o g = let one : ◌≡◌ {A = Option Outcome} None (Some o) = ap (routes_refused s) (sym complete) ∙ g in cc
+
+as-next : (n : Network) (front : List Command) (done : List Piece) (before : List Answered) (c : Command) (out : List Piece) (next : SessionState) (o : Outcome) → (out ≡ o.output) × (next ≡ o.after) → IsNext n front done before c o.output o.after → IsNext n front done before c out next
+as-next n front done before c out next o e x = subst (λ y. IsNext n front done before c y next) (sym e.0) (subst (IsNext n front done before c o.output) (sym e.1) x)
+
+module _ (n : Network) (front : List Command) (done : List Piece) (before : List Answered) (s next : SessionState) (out : List Piece) (f : IsFabric n) (good : AreNamed n) (all : AllByRecursion (IsCommandOf n) front) (run : IsRun n front done s) (k : IsFollowed n front done before s) where
+  command-next : (c : Command) → IsCommandOf n c → Does s c out next → is_judged c ≡ true → PlansNoPull c → IsNext n front done before c out next
+  command-next (Begin h port sends recvs) of_n d kind safe =
+      let o = called s BeginCall h port (step s.world (BeginEvent h port sends recvs)) in
+      let call : Called = begun (node_at s.world h) port sends recvs (client_at s.world h port) in
+      as-next n front done before (Begin h port sends recvs) out next o (as-done d o refl)
+      (call-next n front done before s f all run k h port of_n.0 of_n.1.1 (Begin h port sends recvs) BeginCall call of_n refl (begun-is (node_at s.world h) (client_at s.world h port) h port sends recvs) (determined refl))
+  command-next (Close h port) of_n d kind safe =
+      let o = called s CloseCall h port (step s.world (CloseEvent h port)) in
+      let call : Called = closed (node_at s.world h) port (client_at s.world h port) in
+      as-next n front done before (Close h port) out next o (as-done d o refl)
+      (call-next n front done before s f all run k h port of_n.0 of_n.1.1 (Close h port) CloseCall call of_n refl (closed-is (node_at s.world h) (client_at s.world h port) h port) (determined refl))
+  command-next (Poll h port) of_n d kind safe =
+      let o = called s PollCall h port (step s.world (PollEvent h port)) in
+      let call : Called = polled_by (node_at s.world h) port (client_at s.world h port) in
+      as-next n front done before (Poll h port) out next o (as-done d o refl)
+      (call-next n front done before s f all run k h port of_n.0 of_n.1.1 (Poll h port) PollCall call of_n refl (polled-is (node_at s.world h) h port (client_at s.world h port)) (determined refl))
+  command-next (Tokens h port) of_n d kind safe =
+      let o = says_only s (token_lines h port (port_at (node_at s.world h) port)) in
+      as-next n front done before (Tokens h port) out next o (as-done d o refl) (tokens-next n front done before s f all run k h port of_n.0 of_n.1.1 of_n (determined refl))
+  command-next (Provide h port size prio) of_n d kind safe =
+      let o = called s ProvideCall h port (step s.world (ProvideEvent h port size prio)) in
+      let call : Called = provided_by (node_at s.world h) port size prio (client_at s.world h port) in
+      as-next n front done before (Provide h port size prio) out next o (as-done d o refl)
+      (call-next n front done before s f all run k h port of_n.0 of_n.1.1 (Provide h port size prio) ProvideCall call of_n refl (provided-is (node_at s.world h) h port (client_at s.world h port) size prio) (determined refl))
+  command-next (Send h port dest dport prio len seed) of_n d kind safe =
+      let o = called s SendCall h port (step s.world (SendEvent h port dest dport prio len seed)) in
+      let call : Called = sent_by (node_at s.world h) (wanted port dest dport prio len seed) (client_at s.world h port) in
+      as-next n front done before (Send h port dest dport prio len seed) out next o (as-done d o refl)
+      (call-next n front done before s f all run k h port of_n.0 of_n.2.1 (Send h port dest dport prio len seed) SendCall call of_n refl (sent-is (node_at s.world h) h port (client_at s.world h port) dest dport prio len seed) (determined refl))
+  command-next (Duo event) of_n d kind safe = absurd (true≢false (sym kind))
+  command-next (Walk host walk) of_n d kind safe = network-next n front done before s next (Walk host walk) out f good all of_n run k d refl safe
+  command-next (Map host depth tries) of_n d kind safe = network-next n front done before s next (Map host depth tries) out f good all of_n run k d refl safe
+  command-next (Circuit host depth) of_n d kind safe = network-next n front done before s next (Circuit host depth) out f good all of_n run k d refl safe
+  command-next Routes of_n d kind safe = network-next n front done before s next Routes out f good all of_n run k d refl safe
+  command-next (Install tries) of_n d kind safe = network-next n front done before s next (Install tries) out f good all of_n run k d refl safe
+  command-next (Plan ahead fault) of_n d kind safe = network-next n front done before s next (Plan ahead fault) out f good all of_n run k d refl safe
+  command-next (Step line) of_n d kind safe = network-next n front done before s next (Step line) out f good all of_n run k d refl safe
+  command-next Settle of_n d kind safe = network-next n front done before s next Settle out f good all of_n run k d refl safe
+  command-next Finish of_n d kind safe = network-next n front done before s next Finish out f good all of_n run k d refl safe
+  command-next (Pull at) of_n d kind safe = network-next n front done before s next (Pull at) out f good all of_n run k d refl safe
+  command-next (Plug a b) of_n d kind safe = network-next n front done before s next (Plug a b) out f good all of_n run k d refl safe
+  command-next Revoke of_n d kind safe = network-next n front done before s next Revoke out f good all of_n run k d refl safe
+  command-next Broken of_n d kind safe = network-next n front done before s next Broken out f good all of_n run k d refl safe
+
+module _ (n : Network) (past : ℕ) (f : IsFabric n) (good : AreNamed n) where
+  judged : {s last : SessionState} {cs : List Command} {out : List Piece} (front : List Command) (done : List Piece) (before : List Answered) (number : ℕ) → AllByRecursion (IsCommandOf n) front → AllByRecursion (IsCommandOf n) cs → AllByRecursion (λ c. is_judged c ≡ true) cs → AllByRecursion PlansNoPull cs
+      → IsRun n front done s → IsFollowed n front done before s → Runs s cs out last → AreJudgedYes n past before cs (lines_at number (output_text n out))
+  judged front done before number all of kinds safe run k run_ended = ended
+  judged {s = s} front done before number all of kinds safe run k (run_goes_on {next = next} {c = c} {cs = cs} {out = out} {rest = rest} d r e) =
+      let x = command-next n front done before s next out f good all run k c of.0 d kinds.0 safe.0 in
+      let first = answer-first n f good (known_by n before) past c out x.a number (output_text n rest) x.printed in
+      let others = judged (front ++ c ∷ []) (done ++ out) (answered c x.a ∷ before) first.next (all-join (IsCommandOf n) front (c ∷ []) all (of.0, tt)) of.1 kinds.1 safe.1 (runs-more c out run d) x.followed r in
+      let text = ap (output_text n) e ∙ text_of_both n out rest in
+      subst (λ t. AreJudgedYes n past before (c ∷ cs) (lines_at number t)) (sym text) (goes_on x.a (lines_at first.next (output_text n rest)) first.read x.right others)
+
+-- no port is open before the first command
+no-port : (n : Network) (h port : ℕ) → port_at (node_at (new_world n) h) port ≡ None
+no-port n h port =
+    let none : get_or (replicate {A = Option PortState} port_count None) port None ≡ None = each-replicate (λ o. o ≡ None) port_count port None None refl refl in
+    let hosts = length n.hosts in
+    each-replicate (λ m. port_at m port ≡ None) hosts h (new_node hosts) (new_node 0) none none
+
+-- nothing is known before the first command
+first-followed : (n : Network) → IsFollowed n [] [] [] (new_session n)
+first-followed n = record {
+  known = record { complete = refl; shown = refl; routed = refl; adopted = refl };
+  fabric = sym (first_stands n 0).0;
+  ports = record { each = λ a. sym (ap (λ o. open_by (counts o) (client_at (new_world n) a.host a.port)) (no-port n a.host a.port)) };
+  few = tt;
+  messages = none-messages;
+  unpulled = tt;
+}
+
+pub reports_are_judged_yes : ReportsAreJudgedYes
+reports_are_judged_yes n commands out last past number f good all kinds safe r =
+    judged n past f good [] [] [] number tt all kinds safe run_ended (first-followed n) r

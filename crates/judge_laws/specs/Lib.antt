@@ -1,0 +1,6 @@
+pub mod Lines
+pub mod Answers
+pub mod Laws
+pub mod Commands
+pub mod Reports
+pub mod Examples
