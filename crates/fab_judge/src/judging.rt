@@ -37,6 +37,9 @@ pub fn judge(alloc: Global, text: &[u8]) -> Result<Verdict, TextFault>
     ensures yes { IfOk result (λ v. (v ≡ Verdict.Yes) ↔ IsJudgedYes text.now) }
     // No names the first line that fails, and what fails there.
     ensures no { (line : ℕ) (why : Why) → result ≡ Ok (Verdict.No line why) → FailsFirstIn text.now line why }
+    // And of a report whose first line that fails is this one, the verdict is that.
+    ensures first { (line : ℕ) (why : Why) → FailsFirstIn text.now line why
+        → IfOk result (λ v. v ≡ Verdict.No line why) }
     // A verdict is only of a text whose part up to `end` is accepted.
     ensures accepted { IfOk result (λ v. IsOk (judged_text text.now)) }
     // A fault is the first of that part.

@@ -6,5 +6,6 @@ pub mod Judging
 pub mod Lefts
 pub mod Naming
 pub mod Promises
+pub mod Reports
 pub mod Told
 pub mod Writing

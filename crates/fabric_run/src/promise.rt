@@ -8,6 +8,7 @@ ghost use Rattle.fabric_run.specs.Ends.{IsHalfWritten, IsInterrupted, IsPartOfRe
 ghost use Rattle.fabric_run.specs.Following.{HasSoundMoments, HasMetFaults};
 ghost use Rattle.fabric_run.specs.Promise.{IsPromised};
 ghost use Rattle.fabric_run.specs.Left.{InjectionsAreLeft};
+ghost use Rattle.fabric_run.specs.Judged.{IsJudgeable, IsJudgedWithReport};
 
 /// Every accepted text keeps its promise, whatever becomes of its run.
 pub(crate) fn promised_texts()
@@ -18,6 +19,11 @@ pub(crate) fn promised_texts()
 pub(crate) fn left_injections()
     ensures { (text : List ℕ) (a : AcceptedText) → length text ≤ input_limit → IsAccepted text a
         → InjectionsAreLeft a }
+{}
+
+/// Every accepted text whose report says enough is judged yes with it.
+pub(crate) fn judged_texts()
+    ensures { (text : List ℕ) (a : AcceptedText) → IsAccepted text a → IsJudgeable text a → IsJudgedWithReport text a }
 {}
 
 /// What follows from a text's promise, which [`crate::run`] states: the world is sound after its first commands and

@@ -10,12 +10,12 @@ ghost use Rattle.input_texts.specs.Reading.{AcceptedText, input_limit, reading, 
 ghost use Rattle.fabric_run.specs.Promise.{IsPromised};
 ghost use Rattle.fabric_run.specs.Left.{InjectionsAreLeft};
 ghost use Rattle.input_texts.specs.Forms.{form_of, IsRunForm, IsJudgeForm};
-ghost use Rattle.fabric_run.specs.Judged.{own_judgement};
+ghost use Rattle.fabric_run.specs.Judged.{own_judgement, IsJudgeable, IsJudgedWithReport};
 ghost use Rattle.fabric_run.specs.Ends.{own_answer, SaidEnds, RunEnds};
 
 use crate::generated::run_generated;
 use crate::judged::judge_input;
-use crate::promise::{left_injections, promised_texts};
+use crate::promise::{judged_texts, left_injections, promised_texts};
 use crate::ran::Ran;
 use crate::status::Status;
 use fab_outer::{ReadEnd, Sink, Source, read_all, write_all};
@@ -94,9 +94,15 @@ pub fn run<S: Source, K: Sink>(alloc: Global, words: &[Word], input: &mut S, out
     // injections are left wherever the promise asks for that.
     ensures left { (text : List ℕ) (a : AcceptedText) → length text ≤ input_limit → IsAccepted text a
         → InjectionsAreLeft a }
+
+    // With its own report a text is judged yes: its form, complete maps, routes with their ranks, messages and tokens.
+    // That is said of texts that end with LF, without lines `duo` and `plan pull`: of these no report says enough.
+    ensures judged { (text : List ℕ) (a : AcceptedText) → IsAccepted text a → IsJudgeable text a
+        → IsJudgedWithReport text a }
 {
     promised_texts();
     left_injections();
+    judged_texts();
     match form_of(words) {
         Some(Form::Run) => run_input(alloc, input, out),
         Some(Form::Judge) => judge_input(alloc, input, out),

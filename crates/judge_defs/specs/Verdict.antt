@@ -1,5 +1,5 @@
 -- Which reports are judged yes, and which line of the others is the first that fails.
-use Rattle.std.specs.Prelude.{◌≡◌, ℕ, List, [], ◌∷◌, Option, Some, Ok, Err, slice_get}
+use Rattle.std.specs.Prelude.{◌≡◌, ℕ, List, [], ◌∷◌, Some, Ok, Err, slice_get}
 use Rattle.net_defs.specs.Network.{Network}
 use Rattle.fab_text.specs.Line.{TextLine}
 use Rattle.run_defs.specs.declared.command.Command.{Command}

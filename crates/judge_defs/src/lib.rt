@@ -1,4 +1,4 @@
-//! What is judged of a report that follows its text: definitions, a law of them, and worked examples.
+//! What is judged of a report that follows its text: definitions, laws of them, and worked examples.
 //!
 //! It judges nothing itself. `specs/Text.antt` says when a report is judged yes, and which line of another is the first
 //! that fails; read it first. `answer_defs` says what is right of the answer of a command.
@@ -15,4 +15,4 @@ mod law;
 
 pub use answer_defs::Why;
 pub use examples::{message_with_its_token, moved_cable, routes_that_broke};
-pub use law::yes_excludes_no;
+pub use law::{one_line_fails_first, yes_excludes_no};

@@ -2,7 +2,7 @@ use Rattle.std.proofs.Common.{subst}
 use Rattle.judge_defs.specs.Text.{judged_text}
 use Rattle.fab_judge.specs.Verdicts.{GivesVerdict}
 use Rattle.fab_judge.proofs.Texts.{verdict-no, verdict-accepted}
-use Rattle.fab_judge.proofs.Verdicts.{verdict-yes}
+use Rattle.fab_judge.proofs.Verdicts.{verdict-yes, verdict-named}
 use Rattle.fab_judge.proofs.judging.judge.Goals as goal
 
 pub returns-clause-yes : goal.returns-clause-yes
@@ -16,3 +16,6 @@ returns-clause-accepted c = verdict-accepted c.args.text.now c.judge_text.result
 
 pub returns-clause-fault : goal.returns-clause-fault
 returns-clause-fault c = λ line kind e. subst (λ r. GivesVerdict (judged_text c.args.text.now) r) e c.judge_text.ensures.verdict
+
+pub returns-clause-first : goal.returns-clause-first
+returns-clause-first c = λ line why f. verdict-named c.args.text.now c.judge_text.result line why c.judge_text.ensures.verdict f
