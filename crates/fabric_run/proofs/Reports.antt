@@ -1,16 +1,11 @@
 -- Every accepted text whose report says enough is judged yes with it.
-use Rattle.std.proofs.Common.{◌≡◌, ◌++◌, ℕ, true, List, drop, Result, Ok, Err, refl, subst}
+use Rattle.std.proofs.Common.{◌≡◌, ℕ, true, List, drop, Result, Ok, Err, refl, subst}
 use Rattle.std.specs.List.{AllByRecursion}
 use Rattle.fab_text.specs.Fault.{FirstFault, and_then}
 use Rattle.fabric_file.specs.declared.reading.FabricText.{FabricText}
 use Rattle.fabric_file.specs.Reading.{fabric_reading}
 use Rattle.run_defs.specs.declared.command.Command.{Command}
-use Rattle.run_defs.specs.LineText.{output_text}
-use Rattle.run_defs.specs.Output.{Piece}
-use Rattle.run_defs.specs.Run.{IsRun}
 use Rattle.run_defs.specs.Script.{script_reading}
-use Rattle.run_defs.specs.Session.{SessionState}
-use Rattle.judge_defs.specs.Text.{IsJudgedYes}
 use Rattle.judge_laws.specs.Commands.{is_judged, PlansNoPull}
 use Rattle.judge_laws.proofs.TextReports.{texts_are_judged_yes}
 use Rattle.input_texts.specs.Reading.{AcceptedText, reading_from, reading}
