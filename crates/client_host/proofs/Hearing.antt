@@ -1,30 +1,18 @@
 -- What a host hears, and all that it sends, leaves each port tied to its client: a frame is heard only from one of the hosts.
-use Rattle.std.proofs.Common.{◌≡◌, ℕ, ◌<◌, Bool, true, false, ◌&&◌, List, [], ◌∷◌, ◌++◌, length, nat_eq, Option, Some, None, option_map, refl, sym, ◌∙◌, Result, Ok, Err, arith, if◌then◌else◌}
+use Rattle.std.proofs.Common.{◌≡◌, ℕ, ◌<◌, Bool, true, false, List, [], ◌∷◌, ◌++◌, length, Option, Some, None, option_map, refl, sym, ◌∙◌, if◌then◌else◌}
 use Rattle.std.specs.List.{AllByRecursion}
-use Rattle.std.proofs.lemmas.Bool.Decides.{nat_tests}
 use Rattle.std.proofs.lemmas.List.{length-set}
-use Rattle.packet_defs.specs.declared.kind.Kind.{Kind}
-use Rattle.packet_defs.specs.declared.kind.Kind.TheVariants.{Mapping, Gm}
-use Rattle.packet_defs.specs.declared.host_drop.HostDrop.{HostDrop}
-use Rattle.packet_defs.specs.Host.{decode as decode_packet}
 use Rattle.gm_defs.specs.declared.frame.FrameHead.{FrameHead}
-use Rattle.gm_defs.specs.declared.frame.GmBody.{GmBody}
-use Rattle.gm_defs.specs.declared.frame.GmBody.TheVariants.{Frame, Ack as Acknowledges}
-use Rattle.gm_defs.specs.declared.frame.Malformed.{Malformed as NoBody}
 use Rattle.gm_defs.specs.declared.token.Took.{Took}
 use Rattle.gm_defs.specs.declared.token.Took.TheVariants.{NotNext as TookNotNext, NoToken as TookNoToken, Part as TookPart, Whole}
-use Rattle.gm_defs.specs.Body.{is_last, decode, part_in}
-use Rattle.mapping_defs.specs.Mapping.{RoutePart, MappingBody, decode_mapping}
-use Rattle.mapping_defs.specs.Mapping.MappingBody.{HostProbe, HostReply, Loopback, Part, PartAck}
+use Rattle.gm_defs.specs.Body.{is_last, part_in}
 use Rattle.gm_defs.specs.Token.{Sending, Provided, PortState, PortEvent, Sent, Received, taker}
 use Rattle.gm_defs.specs.Port.{send_of, ended_by, ended_with, going_on_with, taken_by, filled, delivered, finished}
-use Rattle.world_defs.specs.declared.applied.Applied.{Applied}
-use Rattle.world_defs.specs.declared.applied.Applied.TheVariants.{Part as OnePart, Active, Old}
-use Rattle.world_defs.specs.declared.heard.Heard.{Heard}
-use Rattle.world_defs.specs.Table.{TableState, applied}
+use Rattle.world_defs.specs.declared.arrival.Arrival.{Arrival}
 use Rattle.world_defs.specs.Lane.{Ticket, lane_acknowledged, tickets_finished, lane_after}
 use Rattle.world_defs.specs.Node.{NodeState, Outgoing, Probe, TablePart, Reply, PartAnswer, FrameAnswer, Fragment, lane_at, with_lane, port_at, with_port, after_sending}
-use Rattle.world_defs.specs.Hearing.{frame_lane, ack_lane, is_host, heard_if, is_part_for, part_heard, hear_mapping, hear_mapping_body, message_of, delivered_after, frame_heard, frame_took, all_finished, ack_heard, hear_gm, hear_gm_body, hear_body, hear_decoded, hear}
+use Rattle.world_defs.specs.Hearing.{frame_lane, ack_lane, message_of, delivered_after, frame_heard, frame_took, all_finished, ack_heard, hear}
+use Rattle.world_defs.proofs.Hearings.{Hearing, hearing}
 use Rattle.world_laws.proofs.Lists.{at-set}
 use Rattle.token_moves.proofs.Moves.{owned-finished, owned-delivered}
 use Rattle.port_client.specs.Held.{OpenClient}
@@ -108,27 +96,6 @@ delivered-tied hosts h part (Some p) among = record { tied = by }
         }
 
 -- what a host hears
-heard_if-tied : (hosts : ℕ) (b : Bool) (n : NodeState) (r : Heard × NodeState) → (b ≡ true → NodeTied hosts n r.1) → NodeTied hosts n (heard_if b n r).1
-heard_if-tied hosts true n (heard, after) k = k refl
-heard_if-tied hosts false n (heard, after) k = node-same hosts n n refl
-
-part_heard-tied : (hosts : ℕ) (n : NodeState) (p : RoutePart) (r : Applied × TableState) → NodeTied hosts n (part_heard n p r)
-part_heard-tied hosts n p (OnePart, t) = node-same hosts n (part_heard n p (OnePart, t)) refl
-part_heard-tied hosts n p (Active, t) = node-same hosts n (part_heard n p (Active, t)) refl
-part_heard-tied hosts n p (Old, t) = node-same hosts n (part_heard n p (Old, t)) refl
-
-hear_mapping-tied : (host hosts : ℕ) (n : NodeState) (b : MappingBody) → NodeTied hosts n (hear_mapping host hosts n b).1
-hear_mapping-tied host hosts n (HostProbe number mapper back) =
-    heard_if-tied hosts (is_host hosts mapper) n _ (λ e. node-same hosts n (record n { reply = Some (record { number = number; back = back }) }) refl)
-hear_mapping-tied host hosts n (HostReply number from) = heard_if-tied hosts (is_host hosts from) n _ (λ e. node-same hosts n n refl)
-hear_mapping-tied host hosts n (Loopback number mapper) = heard_if-tied hosts (nat_eq mapper host) n _ (λ e. node-same hosts n n refl)
-hear_mapping-tied host hosts n (Part p) = heard_if-tied hosts (is_part_for host hosts p) n _ (λ e. part_heard-tied hosts n p (applied n.table p))
-hear_mapping-tied host hosts n (PartAck epoch from part) = heard_if-tied hosts (is_host hosts from) n _ (λ e. node-same hosts n n refl)
-
-hear_mapping_body-tied : (host hosts : ℕ) (n : NodeState) (b : Option MappingBody) → NodeTied hosts n (hear_mapping_body host hosts n b).1
-hear_mapping_body-tied host hosts n None = node-same hosts n n refl
-hear_mapping_body-tied host hosts n (Some b) = hear_mapping-tied host hosts n b
-
 delivered_after-tied : (hosts : ℕ) (n : NodeState) (h : FrameHead) (part : List ℕ) (t : Took) → h.src < hosts → NodeTied hosts n (delivered_after n h part t)
 delivered_after-tied hosts n h part TookNotNext among = node-same hosts n n refl
 delivered_after-tied hosts n h part TookNoToken among = node-same hosts n n refl
@@ -148,34 +115,17 @@ all_finished-tied hosts n (t ∷ ts) =
     let p : Option PortState = option_map (λ p. finished p t.token) (port_at n t.port) in
     node-after hosts n (with_port n t.port p) (all_finished n (t ∷ ts)) (with_port-tied hosts n t.port p (finished-tied hosts t.token (port_at n t.port))) (all_finished-tied hosts (with_port n t.port p) ts)
 
--- a sender that is a host is below their number
-among : (hosts src : ℕ) (b : Bool) → b && is_host hosts src ≡ true → src < hosts
-among hosts src true e = grind (arith, nat_tests)
-among hosts src false e = absurd (grind arith)
-
-hear_gm-tied : (host hosts : ℕ) (n : NodeState) (body : List ℕ) (b : GmBody) → NodeTied hosts n (hear_gm host hosts n body b).1
-hear_gm-tied host hosts n body (Frame h) =
-    heard_if-tied hosts (nat_eq h.dst host && is_host hosts h.src) n _ (λ e. frame_heard-tied hosts n h (part_in body) (frame_took n h) (among hosts h.src (nat_eq h.dst host) e))
-hear_gm-tied host hosts n body (Acknowledges a) =
-    let m : NodeState = with_lane n (ack_lane a) (lane_acknowledged (lane_at n (ack_lane a)) a.next) in
-    heard_if-tied hosts (nat_eq a.dst host && is_host hosts a.src) n _
-    (λ e. node-after hosts n m (ack_heard n a) (node-same hosts n m refl) (all_finished-tied hosts m (tickets_finished (lane_at n (ack_lane a)) a.next)))
-
-hear_gm_body-tied : (host hosts : ℕ) (n : NodeState) (body : List ℕ) (r : Result GmBody NoBody) → NodeTied hosts n (hear_gm_body host hosts n body r).1
-hear_gm_body-tied host hosts n body (Err e) = node-same hosts n n refl
-hear_gm_body-tied host hosts n body (Ok b) = hear_gm-tied host hosts n body b
-
-hear_body-tied : (host hosts : ℕ) (n : NodeState) (k : Kind) (body : List ℕ) → NodeTied hosts n (hear_body host hosts n k body).1
-hear_body-tied host hosts n Mapping body = hear_mapping_body-tied host hosts n (decode_mapping body)
-hear_body-tied host hosts n Gm body = hear_gm_body-tied host hosts n body (decode body)
-
-hear_decoded-tied : (host hosts : ℕ) (n : NodeState) (r : Result (Kind × List ℕ) HostDrop) → NodeTied hosts n (hear_decoded host hosts n r).1
-hear_decoded-tied host hosts n (Err drop) = node-same hosts n n refl
-hear_decoded-tied host hosts n (Ok (kind, body)) = hear_body-tied host hosts n kind body
-
 pub hear-tied : (host hosts : ℕ) (n : NodeState) (wire : List ℕ) → NodeTied hosts n (hear host hosts n wire).1
-unfolding hear
-hear-tied host hosts n wire = hear_decoded-tied host hosts n (decode_packet wire)
+hear-tied host hosts n wire = by (hearing host hosts n wire)
+  where
+    by : {r : Arrival × NodeState} → Hearing host hosts n wire r → NodeTied hosts n r.1
+    by (Hearing.stays a) = node-same hosts n n refl
+    by (Hearing.probe body number mapper back e d) = node-same hosts n _ refl
+    by (Hearing.part body p e d mine) = node-same hosts n _ refl
+    by (Hearing.frame body h e d mine from) = frame_heard-tied hosts n h (part_in body) (frame_took n h) from
+    by (Hearing.ack body a e d mine from) =
+        let m : NodeState = with_lane n (ack_lane a) (lane_acknowledged (lane_at n (ack_lane a)) a.next) in
+        node-after hosts n m (ack_heard n a) (node-same hosts n m refl) (all_finished-tied hosts m (tickets_finished (lane_at n (ack_lane a)) a.next))
 
 -- and what it sends
 after_sending-tied : (hosts : ℕ) (n : NodeState) (o : Outgoing) → NodeTied hosts n (after_sending n o)

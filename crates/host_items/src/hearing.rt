@@ -4,7 +4,7 @@ ghost use Rattle.std.specs.Prelude.{◌≡◌, ℕ};
 ghost use Rattle.std.specs.List.{list_all};
 ghost use Rattle.mapping_defs.specs.Mapping.{MappingBody};
 ghost use Rattle.world_defs.specs.Node.{NodeState};
-ghost use Rattle.world_defs.specs.Hearing.{is_host, is_part_for, hear_mapping};
+ghost use Rattle.world_defs.specs.Hearing.{OfMapper, is_host, is_part_for, hear_body};
 ghost use Rattle.probe.specs.Body.{said};
 ghost use Rattle.route_parts.specs.Reading.{ack_body};
 ghost use Rattle.host_items.specs.Held.{with_items};
@@ -20,7 +20,7 @@ impl Items {
     /// A probe came, or the reply to one, to a host among so many. Whatever else the host has, it is heard as the
     /// world's host hears it.
     pub fn hear(&mut self, host: u16, hosts: u16, body: ProbeBody) -> Arrival
-        ensures { (n : NodeState) → hear_mapping host hosts (with_items n self.old) (said body)
+        ensures { (n : NodeState) → hear_body host hosts (with_items n self.old) (OfMapper (said body))
             ≡ (result, with_items n self.new) }
     {
         match body {
@@ -40,8 +40,8 @@ impl Items {
 
     // A host probe came: its reply is staged, in the place of an earlier one.
     fn hear_host_probe(&mut self, hosts: u16, number: u64, mapper: u16, back: Walk) -> Arrival
-        ensures { (host : ℕ) (n : NodeState) → hear_mapping host hosts (with_items n self.old)
-            (MappingBody.HostProbe number mapper back) ≡ (result, with_items n self.new) }
+        ensures { (host : ℕ) (n : NodeState) → hear_body host hosts (with_items n self.old)
+            (OfMapper (MappingBody.HostProbe number mapper back)) ≡ (result, with_items n self.new) }
     {
         if mapper < hosts {
             self.reply(number, back);
@@ -54,7 +54,7 @@ impl Items {
 
 /// The acknowledgement of a part came to a host among so many: it is heard, and changes nothing.
 pub fn hear_ack(hosts: u16, ack: &PartAck) -> Arrival
-    ensures { (host : ℕ) (n : NodeState) → hear_mapping host hosts n (ack_body ack.now) ≡ (result, n) }
+    ensures { (host : ℕ) (n : NodeState) → hear_body host hosts n (OfMapper (ack_body ack.now)) ≡ (result, n) }
 {
     let heard = Heard::RoutesAck {
         epoch: ack.epoch,

@@ -58,6 +58,7 @@ pub fn probe_packet(
 }
 
 // The packet of a probe that asks a host.
+#[inline(always)]
 fn host_packet(alloc: Global, host: u16, number: u64, walk: &Walk) -> Result<Packet, AllocError>
     ensures { IfOk result (λ p. p ≡ probe_packet host number walk.now false) }
 {
@@ -68,6 +69,7 @@ fn host_packet(alloc: Global, host: u16, number: u64, walk: &Walk) -> Result<Pac
 }
 
 // The packet of a probe that returns.
+#[inline(always)]
 fn loop_packet(alloc: Global, host: u16, number: u64, walk: &Walk) -> Result<Packet, AllocError>
     requires { length walk.now ≤ 31 }
     ensures { IfOk result (λ p. p ≡ probe_packet host number walk.now true) }

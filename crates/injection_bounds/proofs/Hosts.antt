@@ -1,53 +1,34 @@
 -- What a host hears brings it no more than was asked for, and what it sends is paid for.
-use Rattle.std.proofs.Common.{◌≡◌, ◌≤◌, ◌+◌, ◌&&◌, ℕ, zero, suc, Bool, true, false, ℤ, List, [], ◌∷◌, nat_eq, Option, Some, None, option_map, is_some, Result, Ok, Err, refl, ap, subst, arith, if◌then◌else◌}
+use Rattle.std.proofs.Common.{◌≡◌, ◌≤◌, ◌+◌, ℕ, zero, suc, Bool, true, false, ℤ, List, Option, Some, None, option_map, is_some, Ok, refl, ap, ◌∙◌, subst, arith, if◌then◌else◌}
 use Rattle.std.specs.List.{range_with_len}
 use Rattle.std.proofs.lemmas.Option.{same_Some}
 use Rattle.packet_defs.specs.declared.kind.Kind.{Kind}
 use Rattle.packet_defs.specs.declared.kind.Kind.TheVariants.{Mapping, Gm}
-use Rattle.packet_defs.specs.declared.host_drop.HostDrop.{HostDrop}
 use Rattle.packet_defs.specs.Host.{decode as decode_packet}
 use Rattle.gm_defs.specs.declared.frame.FrameHead.{FrameHead}
 use Rattle.gm_defs.specs.declared.frame.Ack.{Ack}
-use Rattle.gm_defs.specs.declared.frame.GmBody.{GmBody}
-use Rattle.gm_defs.specs.declared.frame.GmBody.TheVariants.{Frame, Ack as Acknowledges}
-use Rattle.gm_defs.specs.declared.frame.Malformed.{Malformed as NoBody}
 use Rattle.gm_defs.specs.declared.token.Took.{Took}
-use Rattle.gm_defs.specs.declared.token.Took.TheVariants.{NotNext as TookNotNext, NoToken as TookNoToken, Part as TookPart, Whole}
-use Rattle.gm_defs.specs.Body.{decode, part_in}
-use Rattle.gm_defs.specs.Port.{finished}
+use Rattle.gm_defs.specs.Body.{part_in}
 use Rattle.gm_defs.specs.Fragment.{frame_of}
 use Rattle.gm_defs.specs.Connection.{due}
 use Rattle.gm_defs.proofs.Choices.{then-some}
-use Rattle.mapping_defs.specs.Mapping.{RoutePart, MappingBody, decode_mapping}
-use Rattle.mapping_defs.specs.Mapping.MappingBody.{HostProbe, HostReply, Loopback, Part, PartAck}
-use Rattle.world_defs.specs.declared.applied.Applied.{Applied}
-use Rattle.world_defs.specs.declared.applied.Applied.TheVariants.{Part as OnePart, Active, Old}
-use Rattle.world_defs.specs.declared.heard.Heard.{Heard}
-use Rattle.world_defs.specs.Table.{TableState, applied}
-use Rattle.world_defs.specs.Lane.{LaneState, Ticket, lane_acknowledged, tickets_finished, lane_after, lane_answered, lane_sent_one}
-use Rattle.world_defs.specs.Node.{NodeState, Staged, StagedReply, StagedAck, StagedProbe, StagedPart, Outgoing, Reply, PartAnswer, FrameAnswer, Fragment, sends_on, lane_at, with_lane, port_at, with_port, lane_route, outgoing_staged, owed_on, due_on, due_frame, either, first_some, lanes_of, to_send, after_sending}
-use Rattle.world_defs.specs.Hearing.{is_host, heard_if, is_part_for, part_heard, hear_mapping, hear_mapping_body, message_of, delivered_after, frame_lane, ack_lane, frame_heard, frame_took, all_finished, ack_heard, hear_gm_body, hear_body, hear_decoded, hear}
-use Rattle.injection_bounds.specs.Credit.{body_asks, mapping_asks, gm_asks, kind_asks, asking, wire_credit, node_credit}
+use Rattle.mapping_defs.specs.Mapping.MappingBody.{HostProbe, Part}
+use Rattle.world_defs.specs.declared.arrival.Arrival.{Arrival}
+use Rattle.world_defs.specs.Table.{applied}
+use Rattle.world_defs.specs.Lane.{LaneState, lane_acknowledged, tickets_finished, lane_after, lane_answered, lane_sent_one}
+use Rattle.world_defs.specs.Node.{NodeState, Staged, StagedReply, StagedAck, StagedProbe, StagedPart, Outgoing, Reply, PartAnswer, FrameAnswer, Fragment, sends_on, lane_at, with_lane, lane_route, outgoing_staged, owed_on, due_on, due_frame, either, first_some, lanes_of, to_send, after_sending}
+use Rattle.world_defs.specs.Hearing.{PacketBody, OfMapper, OfFrame, part_answer, mapping_read, messages_read, packet_read, message_of, frame_lane, ack_lane, frame_heard, frame_took, ack_heard, hear}
+use Rattle.world_defs.proofs.Hearings.{Hearing, hearing, delivered_after-rest, all_finished-rest}
+use Rattle.injection_bounds.specs.Credit.{asks, wire_credit, node_credit}
 use Rattle.injection_bounds.proofs.Lanes.{lane-set, answered-lane, sent-lane, acknowledged-lane, heard-lane}
 use Rattle.injection_bounds.proofs.Packets.{read-credit, out_asks}
-
--- ports bring nothing
-delivered-credit : (n : NodeState) (h : FrameHead) (part : List ℕ) (t : Took) → node_credit (delivered_after n h part t) ≡ node_credit n
-delivered-credit n h part TookNotNext = refl
-delivered-credit n h part TookNoToken = refl
-delivered-credit n h part TookPart = refl
-delivered-credit n h part Whole = refl
-
-finished-credit : (n : NodeState) (ts : List Ticket) → node_credit (all_finished n ts) ≡ node_credit n
-finished-credit n [] = refl
-finished-credit n (t ∷ ts) = finished-credit (with_port n t.port (option_map (λ p. finished p t.token) (port_at n t.port))) ts
 
 -- a frame, and an acknowledgement
 frame-credit : (n : NodeState) (h : FrameHead) (part : List ℕ) (t : Took) → node_credit (frame_heard n h part t).1 ≤ node_credit n + 1
 frame-credit n h part t =
     let lane : ℕ = frame_lane h in
     let l : LaneState = lane_after (lane_at n lane) t (message_of h part) in
-    let d = delivered-credit (with_lane n lane l) h part t in
+    let d = ap node_credit (delivered_after-rest (with_lane n lane l) h part t) in
     let s = lane-set n lane l in
     let o = heard-lane (lane_at n lane) t (message_of h part) in
     omega (arith, d, s, o)
@@ -56,54 +37,36 @@ ack-credit : (n : NodeState) (a : Ack) → node_credit (ack_heard n a) ≤ node_
 ack-credit n a =
     let lane : ℕ = ack_lane a in
     let l : LaneState = lane_acknowledged (lane_at n lane) a.next in
-    let f = finished-credit (with_lane n lane l) (tickets_finished (lane_at n lane) a.next) in
+    let f = ap node_credit (all_finished-rest (with_lane n lane l) (tickets_finished (lane_at n lane) a.next)) in
     let s = lane-set n lane l in
     let o = acknowledged-lane (lane_at n lane) a.next in
     omega (arith, f, s, o)
 
-module _ (host hosts : ℕ) (n : NodeState) where
-  heard_if-credit : (b : Bool) (r : Heard × NodeState) (k : ℕ) → node_credit r.1 ≤ node_credit n + k → node_credit (heard_if b n r).1 ≤ node_credit n + k
-  heard_if-credit true (heard, after) k h = h
-  heard_if-credit false (heard, after) k h = omega arith
+one-few : (b : Bool) → (if b then 1 else 0) ≤ 1
+one-few true = omega arith
+one-few false = omega arith
 
-  part_heard-credit : (p : RoutePart) (r : Applied × TableState) → node_credit (part_heard n p r) ≤ node_credit n + 1
-  part_heard-credit p (OnePart, t) = omega arith
-  part_heard-credit p (Active, t) = omega arith
-  part_heard-credit p (Old, t) = omega arith
+pub hear-credit : (host hosts : ℕ) (n : NodeState) (wire : List ℕ) → node_credit (hear host hosts n wire).1 ≤ node_credit n + wire_credit wire
+hear-credit host hosts n wire = by (hearing host hosts n wire)
+  where
+    low : asks (packet_read (decode_packet wire)) ≤ wire_credit wire
+    low = read-credit wire
 
-  same-credit : node_credit n ≤ node_credit n + 0
-  same-credit = omega arith
+    asked : (k : Kind) (body : List ℕ) (b : PacketBody) → decode_packet wire ≡ Ok (k, body) → packet_read (Ok (k, body)) ≡ b → asks (packet_read (decode_packet wire)) ≡ asks b
+    asked k body b e d = ap (λ r. asks (packet_read r)) e ∙ ap asks d
 
-  hear_mapping-credit : (b : MappingBody) → node_credit (hear_mapping host hosts n b).1 ≤ node_credit n + body_asks b
-  hear_mapping-credit (HostProbe number mapper back) = heard_if-credit (is_host hosts mapper) _ 1 (omega arith)
-  hear_mapping-credit (HostReply number from) = heard_if-credit (is_host hosts from) _ 0 same-credit
-  hear_mapping-credit (Loopback number mapper) = heard_if-credit (nat_eq mapper host) _ 0 same-credit
-  hear_mapping-credit (Part p) = heard_if-credit (is_part_for host hosts p) _ 1 (part_heard-credit p (applied n.table p))
-  hear_mapping-credit (PartAck epoch from part) = heard_if-credit (is_host hosts from) _ 0 same-credit
-
-  hear_mapping_body-credit : (o : Option MappingBody) → node_credit (hear_mapping_body host hosts n o).1 ≤ node_credit n + mapping_asks o
-  hear_mapping_body-credit None = same-credit
-  hear_mapping_body-credit (Some b) = hear_mapping-credit b
-
-  hear_gm_body-credit : (body : List ℕ) (r : Result GmBody NoBody) → node_credit (hear_gm_body host hosts n body r).1 ≤ node_credit n + gm_asks r
-  hear_gm_body-credit body (Err x) = same-credit
-  hear_gm_body-credit body (Ok (Frame h)) = heard_if-credit (nat_eq h.dst host && is_host hosts h.src) _ 1 (frame-credit n h (part_in body) (frame_took n h))
-  hear_gm_body-credit body (Ok (Acknowledges a)) = heard_if-credit (nat_eq a.dst host && is_host hosts a.src) _ 0 (let h = ack-credit n a in omega (arith, h))
-
-  hear_body-credit : (k : Kind) (body : List ℕ) → node_credit (hear_body host hosts n k body).1 ≤ node_credit n + kind_asks k body
-  hear_body-credit Mapping body = hear_mapping_body-credit (decode_mapping body)
-  hear_body-credit Gm body = hear_gm_body-credit body (decode body)
-
-  hear_decoded-credit : (r : Result (Kind × List ℕ) HostDrop) → node_credit (hear_decoded host hosts n r).1 ≤ node_credit n + asking r
-  hear_decoded-credit (Err drop) = same-credit
-  hear_decoded-credit (Ok (k, body)) = hear_body-credit k body
-
-  pub hear-credit : (wire : List ℕ) → node_credit (hear host hosts n wire).1 ≤ node_credit n + wire_credit wire
-  unfolding hear
-  hear-credit wire =
-      let h = hear_decoded-credit (decode_packet wire) in
-      let r = read-credit wire in
-      omega (arith, h, r)
+    by : {r : Arrival × NodeState} → Hearing host hosts n wire r → node_credit r.1 ≤ node_credit n + wire_credit wire
+    by (Hearing.stays a) = omega arith
+    by (Hearing.probe body number mapper back e d) = let one = asked Mapping body (OfMapper (HostProbe number mapper back)) e (ap mapping_read d) in omega (arith, low, one)
+    by (Hearing.part body p e d mine) =
+        let one = asked Mapping body (OfMapper (Part p)) e (ap mapping_read d) in
+        let few = one-few (is_some (part_answer n.part_ack p (applied n.table p).0)) in
+        omega (arith, low, one, few)
+    by (Hearing.frame body h e d mine from) =
+        let one = asked Gm body (OfFrame h (part_in body)) e (ap (messages_read body) d) in
+        let more = frame-credit n h (part_in body) (frame_took n h) in
+        omega (arith, low, one, more)
+    by (Hearing.ack body a e d mine from) = let same = ack-credit n a in omega (arith, same)
 
 -- What a host sends takes one more from its credit than its packet asks for.
 abbrev pub IsPaid : NodeState → Outgoing → Type 0

@@ -16,10 +16,11 @@ use Rattle.link_defs.specs.Step.{Step, Put, Advance, Lose, Reset, Repeat, Hold, 
 use Rattle.link_defs.proofs.Idling.{pick}
 use Rattle.link_defs.proofs.HopsLeft.{course_into-enters}
 use Rattle.link_defs.specs.Kinds.{unrouted}
+use Rattle.world_defs.specs.Hearing.{packet_read}
 use Rattle.world_defs.specs.World.{sum_of}
 use Rattle.injection_bounds.specs.Credit.{wire_credit, slot_credit, caught_credit, links_credit}
 use Rattle.injection_bounds.proofs.Sums.{set-sum, push-sum, removed-sum, filtered-sum}
-use Rattle.injection_bounds.proofs.Packets.{asking-few, stripped-credit}
+use Rattle.injection_bounds.proofs.Packets.{asks-few, stripped-credit}
 
 -- what a step may bring
 abbrev pub step_cost : Step → ℕ
@@ -36,7 +37,7 @@ step_cost (Plug a b) = 0
 step_cost Accept = 0
 
 wire-few : (wire : List ℕ) → wire_credit wire ≤ 1
-wire-few wire = asking-few (body_of (unrouted wire))
+wire-few wire = asks-few (packet_read (body_of (unrouted wire)))
 
 -- a write to a channel
 pub written-credit : (s : LinkState) (c : ℕ) (p : Option Held) → links_credit (with_packet s c p) + slot_credit (packet_in s c) ≤ links_credit s + slot_credit p

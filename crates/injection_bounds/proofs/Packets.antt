@@ -24,33 +24,20 @@ use Rattle.gm_defs.proofs.Bodies.{read_frame}
 use Rattle.mapping_defs.specs.Mapping.{MappingBody, Front, mapping_bytes, is_mapping, by_the_rules, whole, two_front, byte_front, decode_mapping}
 use Rattle.mapping_defs.specs.Mapping.MappingBody.{HostProbe, HostReply, Loopback, Part, PartAck}
 use Rattle.world_defs.specs.Node.{Outgoing, Probe, TablePart, Reply, PartAnswer, FrameAnswer, Fragment, takes_from, packet_for}
+use Rattle.world_defs.specs.Hearing.{PacketBody, OfMapper, OfFrame, OfAck, Unread, mapping_read, messages_read, packet_read}
 use Rattle.link_defs.specs.Kinds.{unrouted}
-use Rattle.injection_bounds.specs.Credit.{body_asks, mapping_asks, gm_asks, kind_asks, asking, wire_credit}
+use Rattle.injection_bounds.specs.Credit.{asks, wire_credit}
 
 -- one answer at most
-body-few : (b : MappingBody) → body_asks b ≤ 1
-body-few (HostProbe number mapper back) = omega arith
-body-few (HostReply number host) = omega arith
-body-few (Loopback number mapper) = omega arith
-body-few (Part p) = omega arith
-body-few (PartAck epoch host part) = omega arith
-
-mapping-few : (o : Option MappingBody) → mapping_asks o ≤ 1
-mapping-few None = omega arith
-mapping-few (Some b) = body-few b
-
-gm-few : (r : Result GmBody Malformed) → gm_asks r ≤ 1
-gm-few (Err e) = omega arith
-gm-few (Ok (Frame h)) = omega arith
-gm-few (Ok (Acknowledges a)) = omega arith
-
-kind-few : (k : Kind) (payload : List ℕ) → kind_asks k payload ≤ 1
-kind-few Mapping payload = mapping-few (decode_mapping payload)
-kind-few Gm payload = gm-few (decode payload)
-
-pub asking-few : (r : Result (Kind × List ℕ) HostDrop) → asking r ≤ 1
-asking-few (Err drop) = omega arith
-asking-few (Ok (k, payload)) = kind-few k payload
+pub asks-few : (b : PacketBody) → asks b ≤ 1
+asks-few (OfMapper (HostProbe number mapper back)) = omega arith
+asks-few (OfMapper (HostReply number host)) = omega arith
+asks-few (OfMapper (Loopback number mapper)) = omega arith
+asks-few (OfMapper (Part p)) = omega arith
+asks-few (OfMapper (PartAck epoch host part)) = omega arith
+asks-few (OfFrame h part) = omega arith
+asks-few (OfAck a) = omega arith
+asks-few (Unread drop) = omega arith
 
 -- a head without the route bytes in front
 abbrev past_route : List ℕ → List ℕ
@@ -81,7 +68,7 @@ unrouted-stripped (byte ∷ next ∷ wire) turn e =
     subst (λ l. unrouted (stripped (byte ∷ l)) ≡ unrouted (byte ∷ l)) (sym w.whole) (unrouted-push byte turn w.front w.last is)
 
 pub stripped-credit : (wire : List ℕ) (turn : ℤ) → front_turn wire ≡ Some turn → wire_credit (stripped wire) ≡ wire_credit wire
-stripped-credit wire turn e = ap (λ l. asking (body_of l)) (unrouted-stripped wire turn e)
+stripped-credit wire turn e = ap (λ l. asks (packet_read (body_of l))) (unrouted-stripped wire turn e)
 
 -- what a host reads is what stands after the route
 no_turn_of : (byte : ℕ) → nat_le 128 byte ≡ false → is_route_byte byte ≡ false
@@ -91,11 +78,11 @@ past-none : (h : List ℕ) → has_route h ≡ false → past_route h ≡ h
 past-none [] e = refl
 past-none (byte ∷ rest) e = past-first byte rest (no_turn_of byte e)
 
-pub read-credit : (wire : List ℕ) → asking (decode_packet wire) ≤ wire_credit wire
+pub read-credit : (wire : List ℕ) → asks (packet_read (decode_packet wire)) ≤ wire_credit wire
 read-credit wire = by (nat_eq (difference wire) 0) (has_route (head wire)) refl
   where
-    by : (t u : Bool) → has_route (head wire) ≡ u → asking (if t then if u then Err RouteLeft else body_of (head wire) else Err BadCrc) ≤ wire_credit wire
-    by true false f = let same : wire_credit wire ≡ asking (body_of (head wire)) = ap (λ l. asking (body_of l)) (past-none (head wire) f) in omega (arith, same)
+    by : (t u : Bool) → has_route (head wire) ≡ u → asks (packet_read (if t then if u then Err RouteLeft else body_of (head wire) else Err BadCrc)) ≤ wire_credit wire
+    by true false f = let same : wire_credit wire ≡ asks (packet_read (body_of (head wire))) = ap (λ l. asks (packet_read (body_of l))) (past-none (head wire) f) in omega (arith, same)
     by true true f = omega arith
     by false u f = omega arith
 
@@ -120,52 +107,52 @@ past-read (turn ∷ route) kind k payload body e = by (is_route_byte (route_byte
     by true t ih = ih (sym (ap body_of (past-push (route_byte turn) rest t)) ∙ e)
     by false t ih = absurd (high-body (route_byte turn) rest (k, body) (omega arith) (sym (ap body_of (past-first (route_byte turn) rest t)) ∙ e))
 
-packet-credit : (route : List ℤ) (kind : Kind) (payload : List ℕ) → wire_credit (packet_of route kind payload) ≤ kind_asks kind payload
+packet-credit : (route : List ℤ) (kind : Kind) (payload : List ℕ) → wire_credit (packet_of route kind payload) ≤ asks (packet_read (Ok (kind, payload)))
 packet-credit route kind payload =
-    let same : wire_credit (packet_of route kind payload) ≡ asking (body_of (past_route (head_of route kind payload))) = ap (λ l. asking (body_of (past_route l))) (head-push (head_of route kind payload) (crc (head_of route kind payload))) in
+    let same : wire_credit (packet_of route kind payload) ≡ asks (packet_read (body_of (past_route (head_of route kind payload)))) = ap (λ l. asks (packet_read (body_of (past_route l)))) (head-push (head_of route kind payload) (crc (head_of route kind payload))) in
     let read = by (body_of (past_route (head_of route kind payload))) refl in
     omega (arith, same, read)
   where
-    by : (r : Result (Kind × List ℕ) HostDrop) → body_of (past_route (head_of route kind payload)) ≡ r → asking r ≤ kind_asks kind payload
+    by : (r : Result (Kind × List ℕ) HostDrop) → body_of (past_route (head_of route kind payload)) ≡ r → asks (packet_read r) ≤ asks (packet_read (Ok (kind, payload)))
     by (Err drop) e = omega arith
     by (Ok (k, body)) e =
         let pair : ◌≡◌ {A = Kind × List ℕ} (kind, payload) (k, body) = past-read route kind k payload body e in
-        let even : kind_asks kind payload ≡ kind_asks k body = ap (λ x. kind_asks x.0 x.1) pair in
+        let even : asks (packet_read (Ok (kind, payload))) ≡ asks (packet_read (Ok (k, body))) = ap (λ x. asks (packet_read (Ok x))) pair in
         omega (arith, even)
 
 -- answers ask for nothing
-ruled : (o : Option MappingBody) → mapping_asks o ≡ 0 → mapping_asks (by_the_rules o) ≡ 0
+ruled : (o : Option MappingBody) → asks (mapping_read o) ≡ 0 → asks (mapping_read (by_the_rules o)) ≡ 0
 ruled None e = refl
 ruled (Some b) e = by (is_mapping b)
   where
-    by : (t : Bool) → mapping_asks (if t then Some b else None) ≡ 0
+    by : (t : Bool) → asks (mapping_read (if t then Some b else None)) ≡ 0
     by true = e
     by false = refl
 
-reply-whole : (o : Front (ℕ × ℕ)) → mapping_asks (whole (option_map (λ two. (HostReply two.0.0 two.0.1, two.1)) o)) ≡ 0
+reply-whole : (o : Front (ℕ × ℕ)) → asks (mapping_read (whole (option_map (λ two. (HostReply two.0.0 two.0.1, two.1)) o))) ≡ 0
 reply-whole None = refl
 reply-whole (Some (two, [])) = refl
 reply-whole (Some (two, byte ∷ bytes)) = refl
 
-ack-part : (epoch host : ℕ) (o : Front ℕ) → mapping_asks (whole (option_map (λ part. (PartAck epoch host part.0, part.1)) o)) ≡ 0
+ack-part : (epoch host : ℕ) (o : Front ℕ) → asks (mapping_read (whole (option_map (λ part. (PartAck epoch host part.0, part.1)) o))) ≡ 0
 ack-part epoch host None = refl
 ack-part epoch host (Some (part, [])) = refl
 ack-part epoch host (Some (part, byte ∷ bytes)) = refl
 
-ack-whole : (o : Front (ℕ × ℕ)) → mapping_asks (whole (option_and_then (λ two. option_map (λ part. (PartAck two.0.0 two.0.1 part.0, part.1)) (byte_front two.1)) o)) ≡ 0
+ack-whole : (o : Front (ℕ × ℕ)) → asks (mapping_read (whole (option_and_then (λ two. option_map (λ part. (PartAck two.0.0 two.0.1 part.0, part.1)) (byte_front two.1)) o))) ≡ 0
 ack-whole None = refl
 ack-whole (Some two) = ack-part two.0.0 two.0.1 (byte_front two.1)
 
-reply-asks : (bytes : List ℕ) → mapping_asks (decode_mapping (2 ∷ bytes)) ≡ 0
+reply-asks : (bytes : List ℕ) → asks (mapping_read (decode_mapping (2 ∷ bytes))) ≡ 0
 reply-asks bytes = ruled (whole (option_map (λ two. (HostReply two.0.0 two.0.1, two.1)) (two_front w64 8 bytes))) (reply-whole (two_front w64 8 bytes))
 
-part_ack-asks : (bytes : List ℕ) → mapping_asks (decode_mapping (5 ∷ bytes)) ≡ 0
+part_ack-asks : (bytes : List ℕ) → asks (mapping_read (decode_mapping (5 ∷ bytes))) ≡ 0
 part_ack-asks bytes = ruled (whole (option_and_then (λ two. option_map (λ part. (PartAck two.0.0 two.0.1 part.0, part.1)) (byte_front two.1)) (two_front w32 4 bytes))) (ack-whole (two_front w32 4 bytes))
 
-ack-asks : (a : Ack) → gm_asks (decode (ack_bytes a)) ≡ 0
+ack-asks : (a : Ack) → asks (messages_read (ack_bytes a) (decode (ack_bytes a))) ≡ 0
 ack-asks a = by (decode (ack_bytes a)) refl
   where
-    by : (r : Result GmBody Malformed) → decode (ack_bytes a) ≡ r → gm_asks r ≡ 0
+    by : (r : Result GmBody Malformed) → decode (ack_bytes a) ≡ r → asks (messages_read (ack_bytes a) r) ≡ 0
     by (Err x) e = refl
     by (Ok (Frame h)) e = absurd (true≢false (sym (read_frame (ack_bytes a) h e).0))
     by (Ok (Acknowledges b)) e = refl
@@ -179,16 +166,16 @@ out_asks (PartAnswer a) = 0
 out_asks (FrameAnswer lane next by) = 0
 out_asks (Fragment lane head part by) = 1
 
-none-asked : (route : List ℤ) (kind : Kind) (payload : List ℕ) → kind_asks kind payload ≡ 0 → wire_credit (packet_of route kind payload) ≤ 0
+none-asked : (route : List ℤ) (kind : Kind) (payload : List ℕ) → asks (packet_read (Ok (kind, payload))) ≡ 0 → wire_credit (packet_of route kind payload) ≤ 0
 none-asked route kind payload e = let h = packet-credit route kind payload in omega (arith, h, e)
 
 pub sent-credit : (host number : ℕ) (out : Outgoing) → wire_credit (packet_for host number out) ≤ out_asks out
 unfolding packet_for
-sent-credit host number (Probe walk true) = asking-few (body_of (unrouted (packet_for host number (Probe walk true))))
-sent-credit host number (Probe walk false) = asking-few (body_of (unrouted (packet_for host number (Probe walk false))))
-sent-credit host number (TablePart part by) = asking-few (body_of (unrouted (packet_for host number (TablePart part by))))
+sent-credit host number (Probe walk true) = asks-few (packet_read (body_of (unrouted (packet_for host number (Probe walk true)))))
+sent-credit host number (Probe walk false) = asks-few (packet_read (body_of (unrouted (packet_for host number (Probe walk false)))))
+sent-credit host number (TablePart part by) = asks-few (packet_read (body_of (unrouted (packet_for host number (TablePart part by)))))
 sent-credit host number (Reply r) = none-asked r.back Mapping (mapping_bytes (HostReply r.number host)) (reply-asks (to_be_bytes w64 r.number ++ to_be_bytes w16 host))
 sent-credit host number (PartAnswer a) =
     none-asked a.back Mapping (mapping_bytes (PartAck a.epoch host a.part)) (part_ack-asks (to_be_bytes w32 a.epoch ++ to_be_bytes w16 host ++ a.part ∷ []))
 sent-credit host number (FrameAnswer lane next by) = none-asked by Gm (ack_bytes (ack_on (takes_from host lane) next)) (ack-asks (ack_on (takes_from host lane) next))
-sent-credit host number (Fragment lane head part by) = asking-few (body_of (unrouted (packet_for host number (Fragment lane head part by))))
+sent-credit host number (Fragment lane head part by) = asks-few (packet_read (body_of (unrouted (packet_for host number (Fragment lane head part by)))))

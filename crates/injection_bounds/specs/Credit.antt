@@ -1,53 +1,24 @@
 -- The credit of a world: what it has in store to inject, and what may come to be in store.
-use Rattle.std.specs.Prelude.{ℕ, ◌+◌, ◌-◌, ◌*◌, List, map, length, is_some, if◌then◌else◌, Option, Some, None, Result, Ok, Err}
-use Rattle.packet_defs.specs.declared.kind.Kind.{Kind}
-use Rattle.packet_defs.specs.declared.kind.Kind.TheVariants.{Mapping, Gm}
-use Rattle.packet_defs.specs.declared.host_drop.HostDrop.{HostDrop}
+use Rattle.std.specs.Prelude.{ℕ, ◌+◌, ◌-◌, ◌*◌, List, map, length, is_some, if◌then◌else◌, Option, Some, None}
 use Rattle.packet_defs.specs.Host.{body_of}
 use Rattle.link_defs.specs.Links.{Held, Caught, LinkState}
-use Rattle.gm_defs.specs.declared.frame.GmBody.{GmBody}
-use Rattle.gm_defs.specs.declared.frame.GmBody.TheVariants.{Frame, Ack as Acknowledges}
-use Rattle.gm_defs.specs.declared.frame.Malformed.{Malformed}
-use Rattle.gm_defs.specs.Body.{decode}
-use Rattle.mapping_defs.specs.Mapping.{MappingBody, decode_mapping}
-use Rattle.mapping_defs.specs.Mapping.MappingBody.{HostProbe, HostReply, Loopback, Part, PartAck}
+use Rattle.mapping_defs.specs.Mapping.MappingBody.{HostProbe, Part}
 use Rattle.world_defs.specs.Lane.{LaneState}
 use Rattle.world_defs.specs.Node.{NodeState}
+use Rattle.world_defs.specs.Hearing.{PacketBody, OfMapper, OfFrame, packet_read}
 use Rattle.world_defs.specs.World.{WorldState, sum_of}
 use Rattle.link_defs.specs.Kinds.{unrouted}
 
--- the answers that a body of the mapper's protocol asks for: a host probe and a part ask for one
-abbrev pub body_asks : MappingBody → ℕ
-body_asks (HostProbe number mapper back) = 1
-body_asks (HostReply number host) = 0
-body_asks (Loopback number mapper) = 0
-body_asks (Part p) = 1
-body_asks (PartAck epoch host part) = 0
-
--- those that what was read as such a body asks for
-abbrev pub mapping_asks : Option MappingBody → ℕ
-mapping_asks None = 0
-mapping_asks (Some body) = body_asks body
-
--- those that a body of messages asks for: a frame asks for an acknowledgement
-abbrev pub gm_asks : Result GmBody Malformed → ℕ
-gm_asks (Err e) = 0
-gm_asks (Ok (Frame h)) = 1
-gm_asks (Ok (Acknowledges a)) = 0
-
--- those that a payload asks for, by its kind
-abbrev pub kind_asks : Kind → List ℕ → ℕ
-kind_asks Mapping payload = mapping_asks (decode_mapping payload)
-kind_asks Gm payload = gm_asks (decode payload)
-
--- those that what was read of a packet asks for
-abbrev pub asking : Result (Kind × List ℕ) HostDrop → ℕ
-asking (Err drop) = 0
-asking (Ok (kind, payload)) = kind_asks kind payload
+-- the answers that what a packet says asks for: a host probe, a part and a frame ask for one
+abbrev pub asks : PacketBody → ℕ
+asks (OfMapper (HostProbe number mapper back)) = 1
+asks (OfMapper (Part p)) = 1
+asks (OfFrame h part) = 1
+asks _ = 0
 
 -- those that bytes ask for, once their route is gone
 abbrev pub wire_credit : List ℕ → ℕ
-wire_credit wire = asking (body_of (unrouted wire))
+wire_credit wire = asks (packet_read (body_of (unrouted wire)))
 
 -- a channel's credit is that of its packet
 abbrev pub slot_credit : Option Held → ℕ

@@ -36,7 +36,7 @@ use Rattle.world_defs.proofs.Lists.{each-set, each-replicate}
 use Rattle.world_defs.proofs.Lanes.{lane_of-below}
 use Rattle.message_laws.proofs.Heard.{IsHeard, quietly, of_frame, of_ack, hear-is}
 use Rattle.message_laws.proofs.Hosts.{Rules, Goes, acted-goes}
-use Rattle.message_laws.proofs.Numbers.{all_finished-lanes}
+use Rattle.world_defs.proofs.Hearings.{all_finished-lanes}
 use Rattle.act_defs.proofs.Reaching.{reached-has}
 use Rattle.message_laws.proofs.Windows.{reached-windowed}
 use Rattle.message_laws.specs.Untouched.{IsUntouched}

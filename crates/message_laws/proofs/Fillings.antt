@@ -40,7 +40,7 @@ use Rattle.message_laws.proofs.Lanes.{InOrder, Carries, frame-fragment}
 use Rattle.message_laws.proofs.Worlds.{IsOrdered, sent_by_lane, to_host, reached-ordered, lanes-grow}
 use Rattle.message_laws.proofs.Heard.{IsHeard, quietly, of_frame, of_ack, hear-is}
 use Rattle.message_laws.proofs.Hosts.{Rules, Goes, acted-goes}
-use Rattle.message_laws.proofs.Numbers.{all_finished-lanes}
+use Rattle.world_defs.proofs.Hearings.{all_finished-lanes}
 use Rattle.message_laws.proofs.Taken.{reached-world}
 use Rattle.message_laws.specs.Filling.{filling_in, IsTied, ComingIsTied}
 use Rattle.message_laws.proofs.Ports.{SamePorts, ports-same, ports-then, all_finished-ports, call-ports}

@@ -1,7 +1,6 @@
 -- What each act makes of the messages sent and got: they stay, or one comes after them.
 use Rattle.std.proofs.Common.{◌≡◌, ℕ, List, get_or, Option, None, refl, sym, ◌∙◌, subst}
 use Rattle.gm_defs.specs.declared.message.Message.{Message}
-use Rattle.gm_defs.specs.declared.frame.FrameHead.{FrameHead}
 use Rattle.gm_defs.specs.declared.token.Took.{Took}
 use Rattle.gm_defs.specs.declared.token.Took.TheVariants.{NotNext, NoToken, Part, Whole}
 use Rattle.gm_defs.specs.Body.{part_in}
@@ -20,7 +19,7 @@ use Rattle.act_defs.proofs.Hosts.{NodeChange, nodes_view, each_node}
 use Rattle.message_laws.specs.Growing.{GrowsByOne, stays, one_more, MessagesOnlyGrow}
 use Rattle.message_laws.proofs.Heard.{IsHeard, quietly, of_frame, of_ack, hear-is}
 use Rattle.message_laws.proofs.Calls.{CallDoes, call-does}
-use Rattle.message_laws.proofs.Numbers.{all_finished-lanes}
+use Rattle.world_defs.proofs.Hearings.{delivered_after-lanes, all_finished-lanes}
 
 -- one lane
 record LaneGrows (l m : LaneState) : Type 0 where
@@ -53,12 +52,6 @@ then-same : (n m r : NodeState) → NodeGrows n m → r.lanes ≡ m.lanes → No
 then-same n m r k e = record { each = λ j. subst (λ ls. LaneGrows (lane_at n j) (get_or ls j new_lane)) (sym e) (k.each j) }
 
 -- a packet is heard
-delivered-lanes : (n : NodeState) (h : FrameHead) (part : List ℕ) (t : Took) → (delivered_after n h part t).lanes ≡ n.lanes
-delivered-lanes n h part NotNext = refl
-delivered-lanes n h part NoToken = refl
-delivered-lanes n h part Part = refl
-delivered-lanes n h part Whole = refl
-
 heard-grows : (host hosts : ℕ) (n : NodeState) (wire : List ℕ) (m : NodeState) → IsHeard host hosts n wire m → NodeGrows n m
 heard-grows host hosts n wire m (quietly e f) = lanes-same n m e
 heard-grows host hosts n wire m (of_frame body h e d mine there now) =
@@ -66,7 +59,7 @@ heard-grows host hosts n wire m (of_frame body h e d mine there now) =
     let q : LaneState = lane_after l (frame_took n h) (message_of h (part_in body)) in
     let v : NodeState = with_lane n (frame_lane h) q in
     let after : NodeState = delivered_after v h (part_in body) (frame_took n h) in
-    subst (NodeGrows n) (sym now) (then-same n v after (one-lane n (frame_lane h) q (after-grows l (frame_took n h) (message_of h (part_in body)))) (delivered-lanes v h (part_in body) (frame_took n h)))
+    subst (NodeGrows n) (sym now) (then-same n v after (one-lane n (frame_lane h) q (after-grows l (frame_took n h) (message_of h (part_in body)))) (delivered_after-lanes v h (part_in body) (frame_took n h)))
 heard-grows host hosts n wire m (of_ack body a e d mine there now) =
     let l : LaneState = lane_at n (ack_lane a) in
     let q : LaneState = lane_acknowledged l a.next in

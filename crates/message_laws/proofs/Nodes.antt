@@ -1,5 +1,5 @@
 -- What each change of a host keeps of its lanes, and what it sends.
-use Rattle.std.proofs.Common.{◌≡◌, ◌+◌, ◌≤◌, ◌<◌, ◌^◌, ℕ, zero, suc, Bool, true, false, ◌&&◌, ℤ, pos, List, [], ◌∷◌, ◌++◌, length, nat_eq, Option, Some, None, option_map, Result, Ok, Err, refl, sym, ap, ◌∙◌, subst, arith, if◌then◌else◌}
+use Rattle.std.proofs.Common.{◌≡◌, ◌+◌, ◌≤◌, ◌<◌, ◌^◌, ℕ, zero, suc, Bool, true, false, ℤ, pos, List, ◌∷◌, ◌++◌, length, Option, Some, None, option_map, Ok, refl, sym, ap, ◌∙◌, subst, arith, if◌then◌else◌}
 use Rattle.std.specs.Prelude.{slice_index_or, option_and_then, ◌%◌}
 use Rattle.std.specs.List.{AllByRecursion, range_with_len}
 use Rattle.std.proofs.lemmas.Bool.Decides.{nat_tests}
@@ -8,33 +8,26 @@ use Rattle.std.proofs.lemmas.List.FromFn.{length-range_with_len}
 use Rattle.std.proofs.lemmas.Option.{same_Some}
 use Rattle.packet_defs.specs.declared.kind.Kind.{Kind}
 use Rattle.packet_defs.specs.declared.kind.Kind.TheVariants.{Mapping, Gm}
-use Rattle.packet_defs.specs.declared.host_drop.HostDrop.{HostDrop}
 use Rattle.packet_defs.specs.Host.{decode as decode_packet}
 use Rattle.gm_defs.specs.declared.message.Message.{Message}
 use Rattle.gm_defs.specs.declared.frame.FrameHead.{FrameHead}
 use Rattle.gm_defs.specs.declared.frame.Ack.{Ack}
 use Rattle.gm_defs.specs.declared.frame.ConnectionKey.{ConnectionKey}
-use Rattle.gm_defs.specs.declared.frame.GmBody.{GmBody}
-use Rattle.gm_defs.specs.declared.frame.GmBody.TheVariants.{Frame, Ack as Acknowledges}
-use Rattle.gm_defs.specs.declared.frame.Malformed.{Malformed as NoBody}
-use Rattle.gm_defs.specs.declared.token.Took.{Took}
-use Rattle.gm_defs.specs.declared.token.Took.TheVariants.{NotNext as TookNotNext, NoToken as TookNoToken, Part as TookPart, Whole}
-use Rattle.gm_defs.specs.Body.{message_limit, number_limit, decode, part_in, frame_bytes, ack_bytes}
+use Rattle.gm_defs.specs.declared.frame.GmBody.TheVariants.{Frame}
+use Rattle.gm_defs.specs.Body.{message_limit, number_limit, part_in, frame_bytes, ack_bytes}
 use Rattle.gm_defs.specs.Fragment.{fragments, frame_of, piece_count, IsHonestFrame}
 use Rattle.gm_defs.specs.Connection.{key_of, ack_on, due, is_spent}
-use Rattle.mapping_defs.specs.Mapping.{RoutePart, MappingBody, decode_mapping, mapping_bytes}
+use Rattle.mapping_defs.specs.Mapping.{mapping_bytes}
 use Rattle.mapping_defs.specs.Mapping.MappingBody.{HostProbe, HostReply, Loopback, Part, PartAck}
-use Rattle.gm_defs.specs.Port.{finished, is_too_long}
-use Rattle.gm_defs.proofs.Choices.{both, then-some}
-use Rattle.world_defs.specs.declared.applied.Applied.{Applied}
-use Rattle.world_defs.specs.declared.applied.Applied.TheVariants.{Part as OnePart, Active, Old}
-use Rattle.world_defs.specs.declared.heard.Heard.{Heard}
-use Rattle.world_defs.specs.Table.{TableState, applied}
-use Rattle.world_defs.specs.Lane.{LaneState, Ticket, new_lane, with_message, lane_acknowledged, lane_after, tickets_finished}
-use Rattle.world_defs.specs.Node.{NodeState, Staged, StagedReply, StagedAck, StagedProbe, StagedPart, Outgoing, Probe, TablePart, Reply, PartAnswer, FrameAnswer, Fragment, prio_place, lane_of, peer_of, prio_of, sends_on, takes_from, lane_at, with_lane, lane_route, port_at, with_port, way_back, outgoing_staged, owed_on, due_on, due_frame, either, first_some, lanes_of, to_send, packet_for, after_sending, with_expired, node_expired}
+use Rattle.gm_defs.specs.Port.{is_too_long}
+use Rattle.gm_defs.proofs.Choices.{then-some}
+use Rattle.world_defs.specs.declared.arrival.Arrival.{Arrival}
+use Rattle.world_defs.specs.Lane.{LaneState, new_lane, with_message, lane_acknowledged, lane_after, tickets_finished}
+use Rattle.world_defs.specs.Node.{NodeState, Staged, StagedReply, StagedAck, StagedProbe, StagedPart, Outgoing, Probe, TablePart, Reply, PartAnswer, FrameAnswer, Fragment, prio_place, lane_of, peer_of, prio_of, sends_on, takes_from, lane_at, with_lane, lane_route, port_at, way_back, outgoing_staged, owed_on, due_on, due_frame, either, first_some, lanes_of, to_send, packet_for, after_sending, with_expired, node_expired}
 use Rattle.world_defs.proofs.Lanes.{facing, facing-taking, prio_of-lane}
-use Rattle.world_defs.specs.Hearing.{is_host, frame_lane, ack_lane, heard_if, is_part_for, part_heard, port_takes, message_of, hear_mapping, hear_mapping_body, delivered_after, frame_heard, frame_took, all_finished, ack_heard, hear_gm, hear_gm_body, hear_body, hear_decoded, hear}
+use Rattle.world_defs.specs.Hearing.{frame_lane, ack_lane, port_takes, message_of, delivered_after, frame_heard, frame_took, ack_heard, hear}
 use Rattle.world_defs.specs.Client.{ClientState, Called, client_bytes, wanted_lane, wanted_message}
+use Rattle.world_defs.proofs.Hearings.{Hearing, hearing, delivered_after-lanes, all_finished-lanes}
 use Rattle.world_defs.proofs.Lists.{each-set}
 use Rattle.world_defs.proofs.Calls.{Call, not_refused-acceptable}
 use Rattle.table_laws.specs.Packets.{Built}
@@ -67,39 +60,6 @@ then-kept : (S : ℕ → List Message) (n m r : NodeState) → NodeNext S n m �
 then-kept S n m r k e = record { count = ap length e ∙ k.count; lanes = λ p. subst (λ l. LaneNext (S p) (prio_of p) (lane_at n p) (slice_index_or l p new_lane)) (sym e) (k.lanes p) }
 
 -- what it hears
-heard_if-next : (S : ℕ → List Message) (b : Bool) (n : NodeState) (r : Heard × NodeState) → (b ≡ true → NodeNext S n r.1) → NodeNext S n (heard_if b n r).1
-heard_if-next S true n (heard, after) k = k refl
-heard_if-next S false n (heard, after) k = node-kept S n n refl
-
-part_heard-lanes : (n : NodeState) (p : RoutePart) (r : Applied × TableState) → (part_heard n p r).lanes ≡ n.lanes
-part_heard-lanes n p (OnePart, t) = refl
-part_heard-lanes n p (Active, t) = refl
-part_heard-lanes n p (Old, t) = refl
-
-hear_mapping-next : (S : ℕ → List Message) (host hosts : ℕ) (n : NodeState) (b : MappingBody) → NodeNext S n (hear_mapping host hosts n b).1
-hear_mapping-next S host hosts n (HostProbe number mapper back) = heard_if-next S (is_host hosts mapper) n _ (λ e. node-kept S n _ refl)
-hear_mapping-next S host hosts n (HostReply number from) = heard_if-next S (is_host hosts from) n _ (λ e. node-kept S n n refl)
-hear_mapping-next S host hosts n (Loopback number mapper) = heard_if-next S (nat_eq mapper host) n _ (λ e. node-kept S n n refl)
-hear_mapping-next S host hosts n (Part p) = heard_if-next S (is_part_for host hosts p) n _ (λ e. node-kept S n _ (part_heard-lanes n p (applied n.table p)))
-hear_mapping-next S host hosts n (PartAck epoch from part) = heard_if-next S (is_host hosts from) n _ (λ e. node-kept S n n refl)
-
-hear_mapping_body-next : (S : ℕ → List Message) (host hosts : ℕ) (n : NodeState) (b : Option MappingBody) → NodeNext S n (hear_mapping_body host hosts n b).1
-hear_mapping_body-next S host hosts n None = node-kept S n n refl
-hear_mapping_body-next S host hosts n (Some b) = hear_mapping-next S host hosts n b
-
-all_finished-lanes : (n : NodeState) (ts : List Ticket) → (all_finished n ts).lanes ≡ n.lanes
-all_finished-lanes n [] = refl
-all_finished-lanes n (t ∷ ts) = all_finished-lanes (with_port n t.port (option_map (λ p. finished p t.token) (port_at n t.port))) ts
-
-delivered_after-lanes : (n : NodeState) (h : FrameHead) (part : List ℕ) (t : Took) → (delivered_after n h part t).lanes ≡ n.lanes
-delivered_after-lanes n h part TookNotNext = refl
-delivered_after-lanes n h part TookNoToken = refl
-delivered_after-lanes n h part TookPart = refl
-delivered_after-lanes n h part Whole = refl
-
-for_host : (a b : ℕ) (c : Bool) → (nat_eq a b && c) ≡ true → a ≡ b
-for_host a b c e = let t = (both (nat_eq a b) c e).0 in grind (arith, nat_tests)
-
 hear_frame-next : (T : ℕ → ℕ → List Message) (host : ℕ) (n : NodeState) (h : FrameHead) (part : List ℕ) → h.dst ≡ host → IsHonestFrame (on T) h part → NodeNext (facing T host) n (frame_heard n h part (frame_took n h)).1
 hear_frame-next T host n h part e good =
     let c : ConnectionKey = key_of (Frame h) in
@@ -119,27 +79,15 @@ hear_ack-next S n a =
     let m : NodeState = with_lane n lane (lane_acknowledged (lane_at n lane) a.next) in
     then-kept S n m (ack_heard n a) (lane-node S n lane _ (acknowledged-next (S lane) (prio_of lane) (lane_at n lane) a.next)) (all_finished-lanes m (tickets_finished (lane_at n lane) a.next))
 
-hear_gm-next : (T : ℕ → ℕ → List Message) (host hosts : ℕ) (n : NodeState) (body : List ℕ) (b : GmBody) → ((h : FrameHead) → b ≡ Frame h → IsHonestFrame (on T) h (part_in body)) → NodeNext (facing T host) n (hear_gm host hosts n body b).1
-hear_gm-next T host hosts n body (Frame h) good =
-    heard_if-next (facing T host) (nat_eq h.dst host && is_host hosts h.src) n _ (λ e. hear_frame-next T host n h (part_in body) (for_host h.dst host (is_host hosts h.src) e) (good h refl))
-hear_gm-next T host hosts n body (Acknowledges a) good =
-    heard_if-next (facing T host) (nat_eq a.dst host && is_host hosts a.src) n _ (λ e. hear_ack-next (facing T host) n a)
-
-hear_gm_body-next : (T : ℕ → ℕ → List Message) (host hosts : ℕ) (n : NodeState) (body : List ℕ) (r : Result GmBody NoBody) → ((h : FrameHead) → r ≡ Ok (Frame h) → IsHonestFrame (on T) h (part_in body)) → NodeNext (facing T host) n (hear_gm_body host hosts n body r).1
-hear_gm_body-next T host hosts n body (Err e) good = node-kept (facing T host) n n refl
-hear_gm_body-next T host hosts n body (Ok b) good = hear_gm-next T host hosts n body b (λ h e. good h (ap Ok e))
-
-hear_body-next : (T : ℕ → ℕ → List Message) (host hosts : ℕ) (n : NodeState) (k : Kind) (body : List ℕ) → SaysTrue (on T) k body → NodeNext (facing T host) n (hear_body host hosts n k body).1
-hear_body-next T host hosts n Mapping body good = hear_mapping_body-next (facing T host) host hosts n (decode_mapping body)
-hear_body-next T host hosts n Gm body good = hear_gm_body-next T host hosts n body (decode body) good
-
-hear_decoded-next : (T : ℕ → ℕ → List Message) (host hosts : ℕ) (n : NodeState) (r : Result (Kind × List ℕ) HostDrop) → ((k : Kind) (body : List ℕ) → r ≡ Ok (k, body) → SaysTrue (on T) k body) → NodeNext (facing T host) n (hear_decoded host hosts n r).1
-hear_decoded-next T host hosts n (Err drop) good = node-kept (facing T host) n n refl
-hear_decoded-next T host hosts n (Ok (k, body)) good = hear_body-next T host hosts n k body (good k body refl)
-
 pub hear-next : (T : ℕ → ℕ → List Message) (host hosts : ℕ) (n : NodeState) (wire : List ℕ) → ((k : Kind) (body : List ℕ) → decode_packet wire ≡ Ok (k, body) → SaysTrue (on T) k body) → NodeNext (facing T host) n (hear host hosts n wire).1
-unfolding hear
-hear-next T host hosts n wire good = hear_decoded-next T host hosts n (decode_packet wire) good
+hear-next T host hosts n wire good = by (hearing host hosts n wire)
+  where
+    by : {r : Arrival × NodeState} → Hearing host hosts n wire r → NodeNext (facing T host) n r.1
+    by (Hearing.stays a) = node-kept (facing T host) n n refl
+    by (Hearing.probe body number mapper back e d) = node-kept (facing T host) n _ refl
+    by (Hearing.part body p e d mine) = node-kept (facing T host) n _ refl
+    by (Hearing.frame body h e d mine from) = hear_frame-next T host n h (part_in body) mine (good Gm body e h d)
+    by (Hearing.ack body a e d mine from) = hear_ack-next (facing T host) n a
 
 -- what it sends
 pub after_sending-next : (S : ℕ → List Message) (n : NodeState) (x : Outgoing) → NodeNext S n (after_sending n x)

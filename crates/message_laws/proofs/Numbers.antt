@@ -1,27 +1,25 @@
 -- What each change of a connection makes of its numbers: what is acknowledged rises to what was taken at most, and what was taken to what was sent at most.
-use Rattle.std.proofs.Common.{◌≡◌, ◌+◌, ◌≤◌, ◌<◌, ℕ, Bool, true, false, ◌&&◌, List, max, nat_eq, nat_lt, nat_le, get_or, [], ◌∷◌, Option, Some, None, option_map, Ok, refl, sym, ap, ◌∙◌, subst, arith, if◌then◌else◌}
+use Rattle.std.proofs.Common.{◌≡◌, ◌+◌, ◌≤◌, ◌<◌, ℕ, Bool, true, false, ◌&&◌, List, max, nat_eq, nat_lt, nat_le, get_or, Option, Some, None, Ok, refl, sym, ap, ◌∙◌, subst, arith, if◌then◌else◌}
 use Rattle.std.proofs.lemmas.Bool.Decides.{nat_tests}
 use Rattle.packet_defs.specs.declared.kind.Kind.{Kind}
 use Rattle.packet_defs.specs.declared.kind.Kind.TheVariants.{Mapping, Gm}
 use Rattle.packet_defs.specs.Host.{decode as decode_packet}
 use Rattle.gm_defs.specs.declared.message.Message.{Message}
-use Rattle.gm_defs.specs.declared.frame.FrameHead.{FrameHead}
 use Rattle.gm_defs.specs.declared.frame.ConnectionKey.{ConnectionKey}
 use Rattle.gm_defs.specs.declared.frame.GmBody.{GmBody}
 use Rattle.gm_defs.specs.declared.frame.GmBody.TheVariants.{Frame, Ack as Acknowledges}
-use Rattle.gm_defs.specs.declared.token.Took.{Took}
-use Rattle.gm_defs.specs.declared.token.Took.TheVariants.{NotNext, NoToken, Part, Whole}
+use Rattle.gm_defs.specs.declared.token.Took.TheVariants.{NotNext, NoToken}
 use Rattle.gm_defs.specs.Body.{decode, part_in}
 use Rattle.gm_defs.specs.Connection.{SenderState, key_of, window, due, is_taken, acknowledged, taken_as, took, taken_after}
-use Rattle.gm_defs.specs.Port.{finished}
 use Rattle.gm_defs.proofs.Choices.{both}
-use Rattle.world_defs.specs.Lane.{LaneState, Ticket, new_lane, with_message, lane_acknowledged, tickets_finished, lane_expired, lane_sent_one, lane_answered, lane_after}
-use Rattle.world_defs.specs.Node.{NodeState, Outgoing, Probe, TablePart, Reply, PartAnswer, FrameAnswer, Fragment, lane_of, sending_lane, taking_lane, lane_at, with_lane, port_at, with_port, to_send, after_sending, with_expired, node_expired}
+use Rattle.world_defs.specs.Lane.{LaneState, new_lane, with_message, lane_acknowledged, tickets_finished, lane_expired, lane_sent_one, lane_answered, lane_after}
+use Rattle.world_defs.specs.Node.{NodeState, Outgoing, Probe, TablePart, Reply, PartAnswer, FrameAnswer, Fragment, lane_of, sending_lane, taking_lane, lane_at, with_lane, to_send, after_sending, with_expired, node_expired}
 use Rattle.world_defs.proofs.Lanes.{facing, facing-taking, facing-sending}
-use Rattle.world_defs.specs.Hearing.{message_of, frame_lane, ack_lane, delivered_after, frame_took, all_finished, hear}
+use Rattle.world_defs.specs.Hearing.{message_of, frame_lane, ack_lane, frame_took, hear}
 use Rattle.world_defs.specs.Client.{ClientState, Called, wanted_lane, wanted_message}
 use Rattle.world_defs.proofs.Calls.{Call}
 use Rattle.world_defs.proofs.Lists.{each-set}
+use Rattle.world_defs.proofs.Hearings.{delivered_after-lanes, all_finished-lanes}
 use Rattle.message_laws.proofs.Heard.{IsHeard, quietly, of_frame, of_ack, hear-is}
 use Rattle.message_laws.proofs.Sends.{IsOut, to_send-out}
 
@@ -133,16 +131,6 @@ lane-node top taken n m k q here e = record {
   lanes = λ p. subst (λ l. LaneGoes (top p) (taken p) (lane_at n p) (get_or l p new_lane)) (sym e)
       (each-set (λ j x. LaneGoes (top j) (taken j) (lane_at n j) x) n.lanes k p q new_lane here (λ j. lane-same (top j) (taken j) (lane_at n j) (lane_at n j) refl refl refl));
 }
-
-pub all_finished-lanes : (n : NodeState) (ts : List Ticket) → (all_finished n ts).lanes ≡ n.lanes
-all_finished-lanes n [] = refl
-all_finished-lanes n (t ∷ ts) = all_finished-lanes (with_port n t.port (option_map (λ p. finished p t.token) (port_at n t.port))) ts
-
-pub delivered_after-lanes : (n : NodeState) (h : FrameHead) (part : List ℕ) (t : Took) → (delivered_after n h part t).lanes ≡ n.lanes
-delivered_after-lanes n h part NotNext = refl
-delivered_after-lanes n h part NoToken = refl
-delivered_after-lanes n h part Part = refl
-delivered_after-lanes n h part Whole = refl
 
 -- what each host has by the lanes on which it sends, and by those from which it takes, for a connection
 abbrev pub sending : {X : Type 0} → (ℕ → ℕ → X) → ConnectionKey → X

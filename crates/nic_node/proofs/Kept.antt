@@ -5,7 +5,7 @@ use Rattle.gm_defs.specs.declared.frame.GmBody.{GmBody}
 use Rattle.gm_defs.specs.declared.frame.Malformed.{Malformed as NoBody}
 use Rattle.world_defs.specs.declared.arrival.Arrival.{Arrival}
 use Rattle.world_defs.specs.Node.{NodeState, lane_count, new_node}
-use Rattle.world_defs.specs.Hearing.{hear_gm_body}
+use Rattle.world_defs.specs.Hearing.{messages_read, hear_body}
 use Rattle.host_items.specs.Held.{HostItems}
 use Rattle.route_install.specs.Collecting.{HostTable}
 use Rattle.host_lanes.specs.Lane.{AreNumbered}
@@ -18,12 +18,12 @@ use Rattle.nic_node.specs.Held.{HostNode, state_of}
 
 -- what was heard, within every host of the world with these lanes and ports
 abbrev WasHeard : {E : Type 0} → ℕ → HostLanes → HostLanes → HostPorts → HostPorts → List ℕ → Result GmBody NoBody → Result Arrival E → Type 0
-WasHeard host p q r s body b result = IfOk result (λ arrival. (n : NodeState) → hear_gm_body host p.hosts (with_messages n p r) body b ≡ (arrival, with_messages n q s))
+WasHeard host p q r s body b result = IfOk result (λ arrival. (n : NodeState) → hear_body host p.hosts (with_messages n p r) (messages_read body b) ≡ (arrival, with_messages n q s))
 
 pub heard-whole : {E : Type 0} (v : HostNode) (host : ℕ) (i : HostItems) (t : HostTable) (p q : HostLanes) (r s : HostPorts) (body : List ℕ) (b : Result GmBody NoBody) (result : Result Arrival E)
     → record { host = host; hosts = p.hosts; state = state_of i t p r } ≡ v → WasHeard host p q r s body b result
-    → IfOk result (λ arrival. hear_gm_body v.host v.hosts v.state body b ≡ (arrival, state_of i t q s))
-heard-whole v host i t p q r s body b (Ok arrival) is heard = sym (ap (λ w. hear_gm_body w.host w.hosts w.state body b) is) ∙ heard (state_of i t p r)
+    → IfOk result (λ arrival. hear_body v.host v.hosts v.state (messages_read body b) ≡ (arrival, state_of i t q s))
+heard-whole v host i t p q r s body b (Ok arrival) is heard = sym (ap (λ w. hear_body w.host w.hosts w.state (messages_read body b)) is) ∙ heard (state_of i t p r)
 heard-whole v host i t p q r s body b (Err e) is heard = tt
 
 -- and it leaves a host that is backed so

@@ -2,7 +2,7 @@
 
 ghost use Rattle.std.specs.Prelude.{◌≡◌, IfOk, OnErr};
 ghost use Rattle.gm_defs.specs.Body.{decode};
-ghost use Rattle.world_defs.specs.Hearing.{hear, hear_gm_body};
+ghost use Rattle.world_defs.specs.Hearing.{messages_read, hear_body, hear};
 
 use crate::messages::hear;
 use crate::node::NicNode;
@@ -31,8 +31,8 @@ impl NicNode {
 
     // A body of messages came.
     fn hear_messages(&mut self, alloc: Global, body: &[u8]) -> Result<Arrival, AllocError>
-        ensures heard { IfOk result (λ arrival. hear_gm_body self.old.host self.old.hosts self.old.state body.now
-            (decode body.now) ≡ (arrival, self.new.state)) }
+        ensures heard { IfOk result (λ arrival. hear_body self.old.host self.old.hosts self.old.state
+            (messages_read body.now (decode body.now)) ≡ (arrival, self.new.state)) }
         ensures host { self.new.host ≡ self.old.host }
         ensures hosts { self.new.hosts ≡ self.old.hosts }
         ensures unchanged { OnErr result (self.new ≡ self.old) }

@@ -3,7 +3,7 @@
 ghost use Rattle.std.specs.Prelude.{◌≡◌, IfOk, OnOk, OnErr};
 ghost use Rattle.mapping_defs.specs.Mapping.{decode_mapping, MappingBody};
 ghost use Rattle.world_defs.specs.Table.{applied};
-ghost use Rattle.world_defs.specs.Hearing.{part_heard, hear_mapping, hear_mapping_body};
+ghost use Rattle.world_defs.specs.Hearing.{OfMapper, part_heard, mapping_read, hear_body};
 ghost use Rattle.probe.specs.Body.{said};
 ghost use Rattle.host_items.specs.Reading.{said_of};
 ghost use Rattle.nic_node.specs.Held.{in_state};
@@ -21,8 +21,8 @@ use world_defs::{Applied, Arrival, Heard};
 impl NicNode {
     /// A body of the mapper's protocol came. Running out of memory changes nothing.
     pub(crate) fn hear_mapping(&mut self, alloc: Global, body: &[u8]) -> Result<Arrival, AllocError>
-        ensures heard { IfOk result (λ arrival. hear_mapping_body self.old.host self.old.hosts self.old.state
-            (decode_mapping body.now) ≡ (arrival, self.new.state)) }
+        ensures heard { IfOk result (λ arrival. hear_body self.old.host self.old.hosts self.old.state
+            (mapping_read (decode_mapping body.now)) ≡ (arrival, self.new.state)) }
         ensures host { self.new.host ≡ self.old.host }
         ensures hosts { self.new.hosts ≡ self.old.hosts }
         ensures unchanged { OnErr result (self.new ≡ self.old) }
@@ -35,8 +35,8 @@ impl NicNode {
 
     // What a body said.
     fn hear_said(&mut self, alloc: Global, said: MapperBody) -> Result<Arrival, AllocError>
-        ensures heard { IfOk result (λ arrival. hear_mapping self.old.host self.old.hosts self.old.state
-            (said_of said) ≡ (arrival, self.new.state)) }
+        ensures heard { IfOk result (λ arrival. hear_body self.old.host self.old.hosts self.old.state
+            (OfMapper (said_of said)) ≡ (arrival, self.new.state)) }
         ensures host { self.new.host ≡ self.old.host }
         ensures hosts { self.new.hosts ≡ self.old.hosts }
         ensures unchanged { OnErr result (self.new ≡ self.old) }
@@ -50,7 +50,7 @@ impl NicNode {
 
     // A probe came, or the reply to one.
     fn hear_probe(&mut self, body: ProbeBody) -> Arrival
-        ensures heard { hear_mapping self.old.host self.old.hosts self.old.state (said body)
+        ensures heard { hear_body self.old.host self.old.hosts self.old.state (OfMapper (said body))
             ≡ (result, self.new.state) }
         ensures host { self.new.host ≡ self.old.host }
         ensures hosts { self.new.hosts ≡ self.old.hosts }
@@ -61,8 +61,8 @@ impl NicNode {
     // A part of a table came. Where it is for this host and was taken, its acknowledgement is staged, in the place of
     // an earlier one.
     fn hear_part(&mut self, alloc: Global, part: RoutePart) -> Result<Arrival, AllocError>
-        ensures heard { IfOk result (λ arrival. hear_mapping self.old.host self.old.hosts self.old.state
-            (MappingBody.Part part) ≡ (arrival, self.new.state)) }
+        ensures heard { IfOk result (λ arrival. hear_body self.old.host self.old.hosts self.old.state
+            (OfMapper (MappingBody.Part part)) ≡ (arrival, self.new.state)) }
         ensures host { self.new.host ≡ self.old.host }
         ensures hosts { self.new.hosts ≡ self.old.hosts }
         ensures unchanged { OnErr result (self.new ≡ self.old) }

@@ -4,7 +4,7 @@ ghost use Rattle.std.specs.Prelude.{◌≡◌, ◌<◌, ◌&&◌, nat_eq, length
 ghost use Rattle.gm_defs.specs.Body.{is_head, decode};
 ghost use Rattle.world_defs.specs.Node.{NodeState};
 ghost use Rattle.world_defs.specs.Hearing.{port_takes, heard_if, is_host, took_word, frame_took, frame_heard};
-ghost use Rattle.world_defs.specs.Hearing.{ack_heard, hear_gm_body};
+ghost use Rattle.world_defs.specs.Hearing.{ack_heard, messages_read, hear_body};
 ghost use Rattle.host_ports.specs.Held.{open_at};
 ghost use Rattle.nic_node.specs.Messages.{with_messages, delivered_in, finished_in};
 
@@ -28,7 +28,8 @@ pub(crate) fn hear(
 ) -> Result<Arrival, AllocError>
     requires { host ≡ lanes.old.host }
     ensures heard { IfOk result (λ arrival. (n : NodeState)
-        → hear_gm_body host (lanes.old.hosts) (with_messages n lanes.old ports.old) body.now (decode body.now)
+        → hear_body host (lanes.old.hosts) (with_messages n lanes.old ports.old)
+        (messages_read body.now (decode body.now))
         ≡ (arrival, with_messages n lanes.new ports.new)) }
     ensures lanes_host { lanes.new.host ≡ lanes.old.host }
     ensures hosts { lanes.new.hosts ≡ lanes.old.hosts }

@@ -103,6 +103,7 @@ impl NicNode {
     }
 
     /// A probe counts as sent that took the place of what was staged: nothing is staged in that place any more.
+    #[inline(always)]
     pub fn probe_sent(&mut self)
         ensures { self.new ≡ in_state self.old (record self.old.state { staged = None }) }
     {

@@ -1,29 +1,18 @@
 -- What a host hears moves tokens within its ports, and all that it sends leaves them.
-use Rattle.std.proofs.Common.{◌≡◌, ℕ, Bool, true, false, ◌&&◌, List, [], ◌∷◌, nat_eq, Option, Some, None, option_map, refl, Result, Ok, Err}
-use Rattle.packet_defs.specs.declared.kind.Kind.{Kind}
-use Rattle.packet_defs.specs.declared.kind.Kind.TheVariants.{Mapping, Gm}
-use Rattle.packet_defs.specs.declared.host_drop.HostDrop.{HostDrop}
-use Rattle.packet_defs.specs.Host.{decode as decode_packet}
+use Rattle.std.proofs.Common.{◌≡◌, ℕ, List, [], ◌∷◌, Option, Some, None, option_map, refl}
 use Rattle.gm_defs.specs.declared.frame.FrameHead.{FrameHead}
-use Rattle.gm_defs.specs.declared.frame.GmBody.{GmBody}
-use Rattle.gm_defs.specs.declared.frame.GmBody.TheVariants.{Frame, Ack as Acknowledges}
-use Rattle.gm_defs.specs.declared.frame.Malformed.{Malformed as NoBody}
 use Rattle.gm_defs.specs.declared.token.Took.{Took}
 use Rattle.gm_defs.specs.declared.token.Took.TheVariants.{NotNext as TookNotNext, NoToken as TookNoToken, Part as TookPart, Whole}
-use Rattle.gm_defs.specs.Body.{decode, part_in}
-use Rattle.mapping_defs.specs.Mapping.{RoutePart, MappingBody, decode_mapping}
-use Rattle.mapping_defs.specs.Mapping.MappingBody.{HostProbe, HostReply, Loopback, Part, PartAck}
+use Rattle.gm_defs.specs.Body.{part_in}
 use Rattle.gm_defs.specs.Token.{PortState}
 use Rattle.gm_defs.specs.Port.{delivered, finished}
-use Rattle.world_defs.specs.declared.applied.Applied.{Applied}
-use Rattle.world_defs.specs.declared.applied.Applied.TheVariants.{Part as OnePart, Active, Old}
-use Rattle.world_defs.specs.declared.heard.Heard.{Heard}
-use Rattle.world_defs.specs.Table.{TableState, applied}
+use Rattle.world_defs.specs.declared.arrival.Arrival.{Arrival}
 use Rattle.world_defs.specs.Lane.{Ticket, lane_acknowledged, tickets_finished, lane_after}
 use Rattle.world_defs.specs.Node.{NodeState, Outgoing, Probe, TablePart, Reply, PartAnswer, FrameAnswer, Fragment, lane_at, with_lane, port_at, with_port, after_sending}
-use Rattle.world_defs.specs.Hearing.{is_host, heard_if, is_part_for, part_heard, hear_mapping, hear_mapping_body, message_of, delivered_after, frame_heard, frame_took, all_finished, ack_heard, hear_gm, hear_gm_body, hear_body, hear_decoded, hear, frame_lane, ack_lane}
+use Rattle.world_defs.specs.Hearing.{message_of, delivered_after, frame_heard, frame_took, all_finished, ack_heard, hear, frame_lane, ack_lane}
 use Rattle.world_defs.specs.Client.{ClientState}
 use Rattle.world_defs.specs.Sound.{AreOwned}
+use Rattle.world_defs.proofs.Hearings.{Hearing, hearing}
 use Rattle.world_laws.proofs.Lists.{at-set}
 use Rattle.token_moves.proofs.Moves.{owned-finished, owned-delivered}
 
@@ -65,27 +54,6 @@ delivered-owned h part (Some p) = record { owned = by }
     by (Some c) is = owned-delivered p c h part is
 
 -- what a host hears
-heard_if-owned : (b : Bool) (n : NodeState) (r : Heard × NodeState) → NodeOwned n r.1 → NodeOwned n (heard_if b n r).1
-heard_if-owned true n (heard, after) k = k
-heard_if-owned false n (heard, after) k = node-same n n refl
-
-part_heard-owned : (n : NodeState) (p : RoutePart) (r : Applied × TableState) → NodeOwned n (part_heard n p r)
-part_heard-owned n p (OnePart, t) = node-same n (part_heard n p (OnePart, t)) refl
-part_heard-owned n p (Active, t) = node-same n (part_heard n p (Active, t)) refl
-part_heard-owned n p (Old, t) = node-same n (part_heard n p (Old, t)) refl
-
-hear_mapping-owned : (host hosts : ℕ) (n : NodeState) (b : MappingBody) → NodeOwned n (hear_mapping host hosts n b).1
-hear_mapping-owned host hosts n (HostProbe number mapper back) =
-    heard_if-owned (is_host hosts mapper) n _ (node-same n (record n { reply = Some (record { number = number; back = back }) }) refl)
-hear_mapping-owned host hosts n (HostReply number from) = heard_if-owned (is_host hosts from) n _ (node-same n n refl)
-hear_mapping-owned host hosts n (Loopback number mapper) = heard_if-owned (nat_eq mapper host) n _ (node-same n n refl)
-hear_mapping-owned host hosts n (Part p) = heard_if-owned (is_part_for host hosts p) n _ (part_heard-owned n p (applied n.table p))
-hear_mapping-owned host hosts n (PartAck epoch from part) = heard_if-owned (is_host hosts from) n _ (node-same n n refl)
-
-hear_mapping_body-owned : (host hosts : ℕ) (n : NodeState) (b : Option MappingBody) → NodeOwned n (hear_mapping_body host hosts n b).1
-hear_mapping_body-owned host hosts n None = node-same n n refl
-hear_mapping_body-owned host hosts n (Some b) = hear_mapping-owned host hosts n b
-
 delivered_after-owned : (n : NodeState) (h : FrameHead) (part : List ℕ) (t : Took) → NodeOwned n (delivered_after n h part t)
 delivered_after-owned n h part TookNotNext = node-same n n refl
 delivered_after-owned n h part TookNoToken = node-same n n refl
@@ -105,28 +73,17 @@ all_finished-owned n (t ∷ ts) =
     let p : Option PortState = option_map (λ p. finished p t.token) (port_at n t.port) in
     node-after n (with_port n t.port p) (all_finished n (t ∷ ts)) (with_port-owned n t.port p (finished-owned t.token (port_at n t.port))) (all_finished-owned (with_port n t.port p) ts)
 
-hear_gm-owned : (host hosts : ℕ) (n : NodeState) (body : List ℕ) (b : GmBody) → NodeOwned n (hear_gm host hosts n body b).1
-hear_gm-owned host hosts n body (Frame h) =
-    heard_if-owned (nat_eq h.dst host && is_host hosts h.src) n _ (frame_heard-owned n h (part_in body) (frame_took n h))
-hear_gm-owned host hosts n body (Acknowledges a) =
-    let m : NodeState = with_lane n (ack_lane a) (lane_acknowledged (lane_at n (ack_lane a)) a.next) in
-    heard_if-owned (nat_eq a.dst host && is_host hosts a.src) n _ (node-after n m (ack_heard n a) (node-same n m refl) (all_finished-owned m (tickets_finished (lane_at n (ack_lane a)) a.next)))
-
-hear_gm_body-owned : (host hosts : ℕ) (n : NodeState) (body : List ℕ) (r : Result GmBody NoBody) → NodeOwned n (hear_gm_body host hosts n body r).1
-hear_gm_body-owned host hosts n body (Err e) = node-same n n refl
-hear_gm_body-owned host hosts n body (Ok b) = hear_gm-owned host hosts n body b
-
-hear_body-owned : (host hosts : ℕ) (n : NodeState) (k : Kind) (body : List ℕ) → NodeOwned n (hear_body host hosts n k body).1
-hear_body-owned host hosts n Mapping body = hear_mapping_body-owned host hosts n (decode_mapping body)
-hear_body-owned host hosts n Gm body = hear_gm_body-owned host hosts n body (decode body)
-
-hear_decoded-owned : (host hosts : ℕ) (n : NodeState) (r : Result (Kind × List ℕ) HostDrop) → NodeOwned n (hear_decoded host hosts n r).1
-hear_decoded-owned host hosts n (Err drop) = node-same n n refl
-hear_decoded-owned host hosts n (Ok (kind, body)) = hear_body-owned host hosts n kind body
-
 pub hear-owned : (host hosts : ℕ) (n : NodeState) (wire : List ℕ) → NodeOwned n (hear host hosts n wire).1
-unfolding hear
-hear-owned host hosts n wire = hear_decoded-owned host hosts n (decode_packet wire)
+hear-owned host hosts n wire = by (hearing host hosts n wire)
+  where
+    by : {r : Arrival × NodeState} → Hearing host hosts n wire r → NodeOwned n r.1
+    by (Hearing.stays a) = node-same n n refl
+    by (Hearing.probe body number mapper back e d) = node-same n _ refl
+    by (Hearing.part body p e d mine) = node-same n _ refl
+    by (Hearing.frame body h e d mine from) = frame_heard-owned n h (part_in body) (frame_took n h)
+    by (Hearing.ack body a e d mine from) =
+        let m : NodeState = with_lane n (ack_lane a) (lane_acknowledged (lane_at n (ack_lane a)) a.next) in
+        node-after n m (ack_heard n a) (node-same n m refl) (all_finished-owned m (tickets_finished (lane_at n (ack_lane a)) a.next))
 
 -- and what it sends
 pub after_sending-owned : (n : NodeState) (o : Outgoing) → NodeOwned n (after_sending n o)

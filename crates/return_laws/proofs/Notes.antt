@@ -32,7 +32,7 @@ use Rattle.ticket_laws.proofs.Hosts.{lane-new, raised, IsFinishing, finishing}
 use Rattle.message_laws.specs.Unfinished.{send_at, tickets_on, unfinished_on, HasBytes}
 use Rattle.message_laws.proofs.Lanes.{front-same}
 use Rattle.message_laws.proofs.Heard.{IsHeard, quietly, of_frame, of_ack}
-use Rattle.message_laws.proofs.Numbers.{all_finished-lanes}
+use Rattle.world_defs.proofs.Hearings.{all_finished-lanes}
 use Rattle.message_laws.proofs.Calls.{CallDoes}
 use Rattle.message_laws.proofs.HostTickets.{IsMatched, IsKnown, all-front, all-apart}
 use Rattle.message_laws.proofs.Events.{AreAll, all-more, PortStill, port-same, called-still, finished-still, delivered-still, ports-same, ports-set}

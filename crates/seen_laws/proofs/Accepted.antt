@@ -32,7 +32,7 @@ use Rattle.act_defs.specs.Acts.{Act, Happens, acted, acted_all, MayActAll, IsRea
 use Rattle.act_defs.proofs.Hosts.{NodeChange, nodes_view, each_node}
 use Rattle.act_defs.proofs.Reaching.{reached-next, reached-new}
 use Rattle.message_laws.proofs.Heard.{IsHeard, quietly, of_frame, of_ack, hear-is}
-use Rattle.message_laws.proofs.Numbers.{all_finished-lanes, delivered_after-lanes}
+use Rattle.world_defs.proofs.Hearings.{all_finished-lanes, delivered_after-lanes}
 use Rattle.message_laws.proofs.Known.{reached-count, reached-known}
 use Rattle.ticket_laws.proofs.Hosts.{lane-new}
 use Rattle.seen_laws.specs.Handed.{in_send, is_sent_on, accepted_by, accepted_in}

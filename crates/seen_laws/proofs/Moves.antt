@@ -28,7 +28,7 @@ use Rattle.world_defs.proofs.Lists.{each-set}
 use Rattle.world_defs.proofs.Lanes.{lane_of-below}
 use Rattle.world_defs.proofs.Calls.{Call}
 use Rattle.message_laws.proofs.Heard.{IsHeard, quietly, of_frame, of_ack}
-use Rattle.message_laws.proofs.Numbers.{all_finished-lanes}
+use Rattle.world_defs.proofs.Hearings.{all_finished-lanes}
 use Rattle.message_laws.proofs.Arrivals.{IsCarried, whole-took, part-took}
 use Rattle.ticket_laws.proofs.Hosts.{lane-new, lane-old}
 use Rattle.seen_laws.specs.Handed.{Handed, in_event, in_events, waiting_in, is_on, is_to, as_handed}

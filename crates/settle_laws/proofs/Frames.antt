@@ -15,7 +15,8 @@ use Rattle.gm_defs.proofs.Numbers.{offset-within}
 use Rattle.gm_defs.proofs.Bodies.{head-read, ack-read}
 use Rattle.world_defs.specs.declared.heard.Heard.{Heard}
 use Rattle.world_defs.specs.Node.{NodeState}
-use Rattle.world_defs.specs.Hearing.{is_host, heard_if, frame_heard, frame_took, ack_heard, hear_gm, hear_gm_body, hear_decoded, hear}
+use Rattle.world_defs.specs.Hearing.{is_host, heard_if, frame_heard, frame_took, ack_heard, messages_read, hear_body, hear}
+use Rattle.world_defs.proofs.Hearings.{heard-as}
 
 -- what makes a fragment's frame one by the rules
 pub record IsByRules (c : ConnectionKey) (seq : ℕ) (f : Fragment) : Type 0 where
@@ -79,9 +80,9 @@ mine dst src host hosts e low =
     let b : nat_lt src hosts ≡ true = grind (arith, nat_tests) in
     rw (a, b) refl
 
-heard-body : (host hosts : ℕ) (n : NodeState) (payload : List ℕ) (b : GmBody) → decode payload ≡ Ok b → (hear host hosts n (packet_of [] Gm payload)).1 ≡ (hear_gm host hosts n payload b).1
-unfolding hear
-heard-body host hosts n payload b e = ap (λ r. (hear_decoded host hosts n r).1) (decode-packet_of Gm payload) ∙ ap (λ r. (hear_gm_body host hosts n payload r).1) e
+heard-body : (host hosts : ℕ) (n : NodeState) (payload : List ℕ) (b : GmBody) → decode payload ≡ Ok b → (hear host hosts n (packet_of [] Gm payload)).1 ≡ (hear_body host hosts n (messages_read payload (Ok b))).1
+heard-body host hosts n payload b e =
+    ap (λ r. r.1) (heard-as host hosts n (packet_of [] Gm payload) (Ok (Gm, payload)) (decode-packet_of Gm payload)) ∙ ap (λ r. (hear_body host hosts n (messages_read payload r)).1) e
 
 pub frame-heard : (hosts : ℕ) (c : ConnectionKey) (seq : ℕ) (n : NodeState) (f : Fragment) → IsByRules c seq f → c.src < hosts
     → (hear c.dst hosts n (packet_of [] Gm (frame_bytes (head_of c seq f) f.part))).1 ≡ (frame_heard n (head_of c seq f) f.part (frame_took n (head_of c seq f))).1

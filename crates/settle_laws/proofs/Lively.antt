@@ -17,7 +17,7 @@ use Rattle.world_defs.specs.Node.{NodeState, prio_place, lane_of, sending_lane, 
 use Rattle.world_defs.specs.Hearing.{port_takes, port_fits, message_of, frame_heard, frame_took, ack_heard, hear}
 use Rattle.world_defs.specs.World.{WorldState, host_count, node_at}
 use Rattle.world_defs.specs.Traffic.{sender_on, taken_on}
-use Rattle.message_laws.proofs.Numbers.{all_finished-lanes, delivered_after-lanes}
+use Rattle.world_defs.proofs.Hearings.{all_finished-lanes, delivered_after-lanes}
 use Rattle.settle_laws.proofs.Views.{AdvanceOf}
 use Rattle.settle_laws.proofs.Ways.{OnWay, WentOn, advance-way}
 use Rattle.settle_laws.proofs.Frames.{frame-heard, ack-heard}

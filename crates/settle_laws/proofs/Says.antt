@@ -23,6 +23,7 @@ use Rattle.world_defs.proofs.Lanes.{peer_of-lane}
 use Rattle.world_defs.proofs.Lists.{each-set}
 use Rattle.world_defs.proofs.Calls.{Call}
 use Rattle.world_laws.proofs.Lists.{at-set}
+use Rattle.world_defs.proofs.Hearings.{delivered_after-lanes, all_finished-lanes}
 use Rattle.message_laws.proofs.Heard.{IsHeard, quietly, of_frame, of_ack, hear-is}
 
 -- a message names a port of its receiver, and a priority
@@ -92,12 +93,6 @@ delivered_after-fits n h part NoToken port fit = fit
 delivered_after-fits n h part Part port fit = port-fits n h.dport (option_map (λ p. delivered p h part) (port_at n h.dport)) (delivered-fits h part (port_at n h.dport)) port fit
 delivered_after-fits n h part Whole port fit = port-fits n h.dport (option_map (λ p. delivered p h part) (port_at n h.dport)) (delivered-fits h part (port_at n h.dport)) port fit
 
-delivered_after-same : (n : NodeState) (h : FrameHead) (part : List ℕ) (t : Took) → (delivered_after n h part t).lanes ≡ n.lanes
-delivered_after-same n h part NotNext = refl
-delivered_after-same n h part NoToken = refl
-delivered_after-same n h part Part = refl
-delivered_after-same n h part Whole = refl
-
 -- parts of a conjunction
 third : (a b c d : Bool) → (a && b && c && d) ≡ true → c ≡ true
 third a b true d e = refl
@@ -139,7 +134,7 @@ got-for got coming Whole m is all = all-push IsFor got (ending coming m) all (re
 frame-says : (n : NodeState) (h : FrameHead) (part : List ℕ) (t : Took) → is_head h ≡ true → NodeSays n (frame_heard n h part t).1
 frame-says n h part t e =
     let q : LaneState = lane_after (lane_at n (frame_lane h)) t (message_of h part) in
-    says-lane n _ (frame_lane h) q (delivered_after-same (with_lane n (frame_lane h) q) h part t) refl (got-for (lane_at n (frame_lane h)).got (lane_at n (frame_lane h)).coming t (message_of h part) (head-for h part e)) (delivered_after-fits (with_lane n (frame_lane h) q) h part t)
+    says-lane n _ (frame_lane h) q (delivered_after-lanes (with_lane n (frame_lane h) q) h part t) refl (got-for (lane_at n (frame_lane h)).got (lane_at n (frame_lane h)).coming t (message_of h part) (head-for h part e)) (delivered_after-fits (with_lane n (frame_lane h) q) h part t)
 
 -- an acknowledgement
 ended-fits : (p : PortState) (token : ℕ) (o : Option Sending) → PortFits (Some p) → PortFits (Some (ended_by p token o))
@@ -156,15 +151,11 @@ all_finished-fits n (t ∷ ts) port fit =
     let p : Option PortState = option_map (λ p. finished p t.token) (port_at n t.port) in
     all_finished-fits (with_port n t.port p) ts port (port-fits n t.port p (finished-fits t.token (port_at n t.port)) port fit)
 
-all_finished-same : (n : NodeState) (ts : List Ticket) → (all_finished n ts).lanes ≡ n.lanes
-all_finished-same n [] = refl
-all_finished-same n (t ∷ ts) = all_finished-same (with_port n t.port (option_map (λ p. finished p t.token) (port_at n t.port))) ts
-
 ack-says : (n : NodeState) (lane next : ℕ) → NodeSays n (all_finished (with_lane n lane (lane_acknowledged (lane_at n lane) next)) (tickets_finished (lane_at n lane) next))
 ack-says n lane next =
     let q : LaneState = lane_acknowledged (lane_at n lane) next in
     let ts : List Ticket = tickets_finished (lane_at n lane) next in
-    says-lane n _ lane q (all_finished-same (with_lane n lane q) ts) refl (λ all. all) (all_finished-fits (with_lane n lane q) ts)
+    says-lane n _ lane q (all_finished-lanes (with_lane n lane q) ts) refl (λ all. all) (all_finished-fits (with_lane n lane q) ts)
 
 -- whatever a host hears
 pub hear-says : (host hosts : ℕ) (n : NodeState) (wire : List ℕ) → NodeSays n (hear host hosts n wire).1

@@ -1,107 +1,44 @@
 -- A host keeps what it has of the adopted set, whatever it hears, sends or is called for, and sends no other parts.
-use Rattle.std.proofs.Common.{◌≡◌, ℕ, Bool, true, false, ◌&&◌, ℤ, pos, List, [], ◌∷◌, ◌++◌, nat_eq, Option, Some, None, IfSome, option_map, refl, ◌∙◌, sym, ap, subst, arith, if◌then◌else◌, Result, Ok, Err}
+use Rattle.std.proofs.Common.{◌≡◌, ℕ, Bool, true, false, ℤ, pos, List, [], ◌∷◌, ◌++◌, Option, Some, None, IfSome, option_map, refl, ◌∙◌, sym, ap, subst, if◌then◌else◌, Ok}
 use Rattle.std.specs.Prelude.{option_and_then}
 use Rattle.std.specs.Int.{w16, w32, w64, to_be_bytes}
-use Rattle.std.proofs.lemmas.Bool.Decides.{nat_tests}
 use Rattle.std.proofs.lemmas.Option.{same_Some}
 use Rattle.packet_defs.specs.declared.kind.Kind.{Kind}
 use Rattle.packet_defs.specs.declared.kind.Kind.TheVariants.{Mapping, Gm}
-use Rattle.packet_defs.specs.declared.host_drop.HostDrop.{HostDrop}
 use Rattle.packet_defs.specs.Host.{decode as decode_packet}
 use Rattle.gm_defs.specs.declared.frame.FrameHead.{FrameHead}
-use Rattle.gm_defs.specs.declared.frame.GmBody.{GmBody}
-use Rattle.gm_defs.specs.declared.frame.GmBody.TheVariants.{Frame, Ack as Acknowledges}
-use Rattle.gm_defs.specs.declared.frame.Malformed.{Malformed as NoBody}
-use Rattle.gm_defs.specs.declared.token.Took.{Took}
-use Rattle.gm_defs.specs.declared.token.Took.TheVariants.{NotNext as TookNotNext, NoToken as TookNoToken, Part as TookPart, Whole}
-use Rattle.gm_defs.specs.Body.{decode, part_in, frame_bytes, ack_bytes}
+use Rattle.gm_defs.specs.Body.{part_in, frame_bytes, ack_bytes}
 use Rattle.gm_defs.specs.Connection.{ack_on}
 use Rattle.mapping_defs.specs.Mapping.{RoutePart, MappingBody, Front, decode_mapping, mapping_bytes, is_mapping, by_the_rules, whole, two_front, route_front, byte_front, route_bytes}
 use Rattle.mapping_defs.specs.Mapping.MappingBody.{HostProbe, HostReply, Loopback, Part, PartAck}
-use Rattle.gm_defs.specs.Port.{finished}
-use Rattle.gm_defs.proofs.Choices.{both, map-some, then-some}
-use Rattle.world_defs.specs.declared.applied.Applied.{Applied}
-use Rattle.world_defs.specs.declared.applied.Applied.TheVariants.{Part as OnePart, Active, Old}
-use Rattle.world_defs.specs.declared.heard.Heard.{Heard}
-use Rattle.world_defs.specs.Table.{Adoption, TableState, applied}
-use Rattle.world_defs.specs.Lane.{LaneState, Ticket, lane_expired, tickets_finished}
-use Rattle.world_defs.specs.Node.{NodeState, Staged, StagedReply, StagedAck, StagedProbe, StagedPart, Outgoing, Probe, TablePart, Reply, PartAnswer, FrameAnswer, Fragment, lane_of, takes_from, lane_at, with_lane, lane_route, port_at, with_port, way_back, outgoing_staged, owed_on, due_on, due_frame, either, first_some, lanes_of, to_send, packet_for, after_sending, given_up, with_expired, node_expired}
-use Rattle.world_defs.specs.Hearing.{is_host, frame_lane, ack_lane, heard_if, is_part_for, part_heard, hear_mapping, hear_mapping_body, delivered_after, frame_took, all_finished, hear_gm, hear_gm_body, hear_body, hear_decoded, hear}
+use Rattle.gm_defs.proofs.Choices.{map-some, then-some}
+use Rattle.world_defs.specs.declared.arrival.Arrival.{Arrival}
+use Rattle.world_defs.specs.Table.{Adoption}
+use Rattle.world_defs.specs.Lane.{LaneState, lane_expired, tickets_finished}
+use Rattle.world_defs.specs.Node.{NodeState, Staged, StagedReply, StagedAck, StagedProbe, StagedPart, Outgoing, Probe, TablePart, Reply, PartAnswer, FrameAnswer, Fragment, lane_of, takes_from, lane_at, with_lane, lane_route, way_back, outgoing_staged, owed_on, due_on, due_frame, either, first_some, lanes_of, to_send, packet_for, after_sending, given_up, with_expired, node_expired}
+use Rattle.world_defs.specs.Hearing.{ack_lane, frame_took, hear}
 use Rattle.world_defs.specs.Client.{ClientState, Called}
+use Rattle.world_defs.proofs.Hearings.{Hearing, hearing, delivered_after-rest, all_finished-rest}
 use Rattle.world_defs.proofs.Calls.{Call}
-use Rattle.table_laws.specs.Set.{IsPart, IsTable, IsFitPart}
+use Rattle.table_laws.specs.Set.{IsPart, IsFitPart}
 use Rattle.table_laws.specs.Packets.{Built}
 use Rattle.table_laws.specs.Bodies.{IsBody, IsStaged, IsHostOf}
 use Rattle.table_laws.proofs.Parts.{applied-table}
 use Rattle.table_laws.proofs.Written.{part-read}
 
 -- what it hears
-heard_if-host : (o : Option Adoption) (host : ℕ) (b : Bool) (n : NodeState) (r : Heard × NodeState) → IsHostOf o host n → (b ≡ true → IsHostOf o host r.1) → IsHostOf o host (heard_if b n r).1
-heard_if-host o host true n (heard, after) is k = k refl
-heard_if-host o host false n (heard, after) is k = is
-
-part_heard-host : (o : Option Adoption) (host : ℕ) (n : NodeState) (p : RoutePart) (r : Applied × TableState) → IsHostOf o host n → IsTable o host r.1 → IsHostOf o host (part_heard n p r)
-part_heard-host o host n p (OnePart, t) is table = record { staged = is.staged; table = table }
-part_heard-host o host n p (Active, t) is table = record { staged = is.staged; table = table }
-part_heard-host o host n p (Old, t) is table = record { staged = is.staged; table = table }
-
-for_host : (host hosts : ℕ) (p : RoutePart) → is_part_for host hosts p ≡ true → p.dst ≡ host
-for_host host hosts p e =
-    let a = both (nat_eq p.dst host && is_host hosts p.mapper) _ e in
-    let b = both (nat_eq p.dst host) (is_host hosts p.mapper) a.0 in
-    let t = b.0 in
-    grind (arith, nat_tests)
-
-hear_mapping-host : (o : Option Adoption) (host hosts : ℕ) (n : NodeState) (b : MappingBody) → IsHostOf o host n → ((p : RoutePart) → b ≡ Part p → IsPart o p.dst p) → IsHostOf o host (hear_mapping host hosts n b).1
-hear_mapping-host o host hosts n (HostProbe number mapper back) is k = heard_if-host o host (is_host hosts mapper) n _ is (λ e. record { staged = is.staged; table = is.table })
-hear_mapping-host o host hosts n (HostReply number from) is k = heard_if-host o host (is_host hosts from) n _ is (λ e. is)
-hear_mapping-host o host hosts n (Loopback number mapper) is k = heard_if-host o host (nat_eq mapper host) n _ is (λ e. is)
-hear_mapping-host o host hosts n (Part p) is k =
-    heard_if-host o host (is_part_for host hosts p) n _ is
-    (λ e. part_heard-host o host n p (applied n.table p) is (applied-table o host n.table p (subst (λ h. IsPart o h p) (for_host host hosts p e) (k p refl)) is.table))
-hear_mapping-host o host hosts n (PartAck epoch from part) is k = heard_if-host o host (is_host hosts from) n _ is (λ e. is)
-
-hear_mapping_body-host : (o : Option Adoption) (host hosts : ℕ) (n : NodeState) (b : Option MappingBody) → IsHostOf o host n → ((p : RoutePart) → b ≡ Some (Part p) → IsPart o p.dst p) → IsHostOf o host (hear_mapping_body host hosts n b).1
-hear_mapping_body-host o host hosts n None is k = is
-hear_mapping_body-host o host hosts n (Some b) is k = hear_mapping-host o host hosts n b is (λ p e. k p (ap Some e))
-
-all_finished-host : (o : Option Adoption) (host : ℕ) (n : NodeState) (ts : List Ticket) → IsHostOf o host n → IsHostOf o host (all_finished n ts)
-all_finished-host o host n [] is = is
-all_finished-host o host n (t ∷ ts) is =
-    let m : NodeState = with_port n t.port (option_map (λ p. finished p t.token) (port_at n t.port)) in
-    let now : IsHostOf o host m = record { staged = is.staged; table = is.table } in
-    all_finished-host o host m ts now
-
-delivered_after-host : (o : Option Adoption) (host : ℕ) (n : NodeState) (h : FrameHead) (part : List ℕ) (t : Took) → IsHostOf o host n → IsHostOf o host (delivered_after n h part t)
-delivered_after-host o host n h part TookNotNext is = is
-delivered_after-host o host n h part TookNoToken is = is
-delivered_after-host o host n h part TookPart is = record { staged = is.staged; table = is.table }
-delivered_after-host o host n h part Whole is = record { staged = is.staged; table = is.table }
-
 lane-host : (o : Option Adoption) (host : ℕ) (n : NodeState) (lane : ℕ) (l : LaneState) → IsHostOf o host n → IsHostOf o host (with_lane n lane l)
 lane-host o host n lane l is = record { staged = is.staged; table = is.table }
 
-hear_gm-host : (o : Option Adoption) (host hosts : ℕ) (n : NodeState) (body : List ℕ) (b : GmBody) → IsHostOf o host n → IsHostOf o host (hear_gm host hosts n body b).1
-hear_gm-host o host hosts n body (Frame h) is =
-    heard_if-host o host (nat_eq h.dst host && is_host hosts h.src) n _ is (λ e. delivered_after-host o host _ h (part_in body) (frame_took n h) (lane-host o host n (frame_lane h) _ is))
-hear_gm-host o host hosts n body (Acknowledges a) is =
-    heard_if-host o host (nat_eq a.dst host && is_host hosts a.src) n _ is (λ e. all_finished-host o host _ (tickets_finished (lane_at n (ack_lane a)) a.next) (lane-host o host n (ack_lane a) _ is))
-
-hear_gm_body-host : (o : Option Adoption) (host hosts : ℕ) (n : NodeState) (body : List ℕ) (r : Result GmBody NoBody) → IsHostOf o host n → IsHostOf o host (hear_gm_body host hosts n body r).1
-hear_gm_body-host o host hosts n body (Err e) is = is
-hear_gm_body-host o host hosts n body (Ok b) is = hear_gm-host o host hosts n body b is
-
-hear_body-host : (o : Option Adoption) (host hosts : ℕ) (n : NodeState) (k : Kind) (body : List ℕ) → IsHostOf o host n → IsBody o k body → IsHostOf o host (hear_body host hosts n k body).1
-hear_body-host o host hosts n Mapping body is good = hear_mapping_body-host o host hosts n (decode_mapping body) is (λ p e. good.part p refl e)
-hear_body-host o host hosts n Gm body is good = hear_gm_body-host o host hosts n body (decode body) is
-
-hear_decoded-host : (o : Option Adoption) (host hosts : ℕ) (n : NodeState) (r : Result (Kind × List ℕ) HostDrop) → IsHostOf o host n → ((k : Kind) (body : List ℕ) → r ≡ Ok (k, body) → IsBody o k body) → IsHostOf o host (hear_decoded host hosts n r).1
-hear_decoded-host o host hosts n (Err drop) is good = is
-hear_decoded-host o host hosts n (Ok (k, body)) is good = hear_body-host o host hosts n k body is (good k body refl)
-
 pub hear-host : (o : Option Adoption) (host hosts : ℕ) (n : NodeState) (wire : List ℕ) → IsHostOf o host n → ((k : Kind) (body : List ℕ) → decode_packet wire ≡ Ok (k, body) → IsBody o k body) → IsHostOf o host (hear host hosts n wire).1
-unfolding hear
-hear-host o host hosts n wire is good = hear_decoded-host o host hosts n (decode_packet wire) is good
+hear-host o host hosts n wire is good = by (hearing host hosts n wire)
+  where
+    by : {r : Arrival × NodeState} → Hearing host hosts n wire r → IsHostOf o host r.1
+    by (Hearing.stays a) = is
+    by (Hearing.probe body number mapper back e d) = record { staged = is.staged; table = is.table }
+    by (Hearing.part body p e d mine) = record { staged = is.staged; table = applied-table o host n.table p (subst (λ h. IsPart o h p) mine ((good Mapping body e).part p refl d)) is.table }
+    by (Hearing.frame body h e d mine from) = subst (IsHostOf o host) (sym (delivered_after-rest _ h (part_in body) (frame_took n h))) (record { staged = is.staged; table = is.table })
+    by (Hearing.ack body a e d mine from) = subst (IsHostOf o host) (sym (all_finished-rest _ (tickets_finished (lane_at n (ack_lane a)) a.next))) (record { staged = is.staged; table = is.table })
 
 -- what it sends
 abbrev pub IsOut : Option Adoption → Outgoing → Type 0

@@ -19,15 +19,16 @@ use Rattle.gm_defs.specs.Port.{sent_with}
 use Rattle.world_defs.specs.declared.heard.Heard.{Heard}
 use Rattle.world_defs.specs.Lane.{LaneState, Ticket, new_lane, finished_by, lane_acknowledged, tickets_finished, lane_expired, lane_answered, lane_sent_one, lane_after}
 use Rattle.world_defs.specs.Node.{NodeState, new_node, lane_count, lane_of, lane_at, with_lane, node_expired, with_expired, due_frame}
-use Rattle.world_defs.specs.Hearing.{message_of, is_host, frame_lane, ack_lane, delivered_after, frame_took, all_finished, heard_if, hear_gm_body}
+use Rattle.world_defs.specs.Hearing.{message_of, is_host, frame_lane, ack_lane, delivered_after, frame_took, all_finished, heard_if, messages_read, hear_body}
 use Rattle.world_defs.proofs.Lanes.{lane_of-below}
 use Rattle.world_defs.proofs.Lists.{each-replicate}
+use Rattle.world_defs.proofs.Hearings.{delivered_after-lanes}
 use Rattle.ticket_laws.specs.Tickets.{AreMatched}
 use Rattle.ticket_laws.specs.Host.{send_under, tickets_of, unfinished_of, Begins, HasApartSends, AllApart, IsBacked, IsInBuffer}
 use Rattle.ticket_laws.proofs.Matching.{OneAfter, the_one, another, tickets-keep, tickets-long, ticket-send, matched-same, matched-finished, matched-accepted}
 use Rattle.ticket_laws.proofs.Sendings.{under, tokens, apart-joined}
 use Rattle.ticket_laws.proofs.Ports.{ApartStill, SameSends, set-sends, SameTickets, lanes-set, closed-sends, ports-apart, same-ticket, finish, finish-apart, one-finished, at, at-here, at-other, at-again, at-same}
-use Rattle.ticket_laws.proofs.Hosts.{delivered-same, delivered-lanes, finishing-as, tickets-left, messages-left, CanAccept, once_accepted, accepted_ticket, accepted_send, accepted-tickets, accepted-messages, others-tickets, others-messages, accepted-free, accepted-sends}
+use Rattle.ticket_laws.proofs.Hosts.{delivered-same, finishing-as, tickets-left, messages-left, CanAccept, once_accepted, accepted_ticket, accepted_send, accepted-tickets, accepted-messages, others-tickets, others-messages, accepted-free, accepted-sends}
 use Rattle.ticket_laws.proofs.Keeping.{host_of, none-matched, new-ticketed, delivered-apart, finished-apart, from_host}
 use Rattle.ticket_laws.proofs.Parts.{part-in-buffer}
 
@@ -234,7 +235,7 @@ module _ (holds : List ℕ → List ℕ → Type 0) (host hosts : ℕ) (n : Node
       let q : LaneState = lane_after (lane_at n (frame_lane h)) t (message_of h part) in
       let v : NodeState = with_lane n (frame_lane h) q in
       let m : NodeState = delivered_after v h part t in
-      let same = lanes-set n m (frame_lane h) q (delivered-lanes v h part t) (record { tickets = refl; messages = refl }) in
+      let same = lanes-set n m (frame_lane h) q (delivered_after-lanes v h part t) (record { tickets = refl; messages = refl }) in
       record {
         known = is.known;
         there = λ x s e. delivered-same n v h part t refl x ∙ is.there x s e;
@@ -258,7 +259,7 @@ module _ (holds : List ℕ → List ℕ → Type 0) (host hosts : ℕ) (n : Node
       (messages-left n k a.next fin) all)
       (finished-apart before gone is.apart)
 
-  pub heard-backed : (body : List ℕ) (b : Result GmBody NoBody) → Backed (hear_gm_body host hosts n body b).1
+  pub heard-backed : (body : List ℕ) (b : Result GmBody NoBody) → Backed (hear_body host hosts n (messages_read body b)).1
   heard-backed body (Err e) = is
   heard-backed body (Ok (Frame h)) = where_heard (nat_eq h.dst host && is_host hosts h.src) _ (λ e. frame-backed h (part_in body) (frame_took n h))
   heard-backed body (Ok (Acknowledges a)) = where_heard (nat_eq a.dst host && is_host hosts a.src) _ (λ e. ack-backed a (from_host host hosts a.dst a.src e))

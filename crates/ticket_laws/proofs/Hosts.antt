@@ -15,6 +15,7 @@ use Rattle.gm_defs.proofs.Numbers.{more-below, below-up, below-few}
 use Rattle.world_defs.specs.Lane.{LaneState, Ticket, new_lane, with_message, finished_by, lane_acknowledged, tickets_finished, lane_expired, lane_sent_one, lane_answered, lane_after}
 use Rattle.world_defs.specs.Node.{NodeState, Outgoing, Probe, TablePart, Reply, PartAnswer, FrameAnswer, Fragment, lane_of, lane_at, with_lane, port_at, with_port, after_sending, with_expired, node_expired}
 use Rattle.world_defs.specs.Hearing.{message_of, frame_lane, delivered_after, all_finished}
+use Rattle.world_defs.proofs.Hearings.{delivered_after-lanes, all_finished-lanes}
 use Rattle.ticket_laws.specs.Host.{send_in, send_under, tickets_of, unfinished_of, AllApart}
 use Rattle.ticket_laws.proofs.Matching.{same-or, OneAfter, the_one, another, tickets-long, matched-same, matched-accepted}
 use Rattle.ticket_laws.proofs.Sendings.{under, under-joined, under-new}
@@ -80,23 +81,13 @@ pub expired-same : (holds : List ℕ → List ℕ → Type 0) (n : NodeState) (p
 expired-same holds n peer is = lane-expired holds (with_expired n (lane_of peer 0)) (lane_of peer 1) (lane-expired holds n (lane_of peer 0) is)
 
 -- the lanes of a host that hears of its ports alone
-finished-lanes : (n : NodeState) (ts : List Ticket) → (all_finished n ts).lanes ≡ n.lanes
-finished-lanes n [] = refl
-finished-lanes n (t ∷ ts) = finished-lanes (with_port n t.port (option_map (λ p. finished p t.token) (port_at n t.port))) ts
-
-pub delivered-lanes : (n : NodeState) (h : FrameHead) (part : List ℕ) (t : Took) → (delivered_after n h part t).lanes ≡ n.lanes
-delivered-lanes n h part NotNext = refl
-delivered-lanes n h part NoToken = refl
-delivered-lanes n h part Part = refl
-delivered-lanes n h part Whole = refl
-
 -- a frame is heard
 pub frame-matched : (holds : List ℕ → List ℕ → Type 0) (n : NodeState) (h : FrameHead) (part : List ℕ) (t : Took) → HostMatched holds n
     → HostMatched holds (delivered_after (with_lane n (frame_lane h) (lane_after (lane_at n (frame_lane h)) t (message_of h part))) h part t)
 frame-matched holds n h part t is =
     let q : LaneState = lane_after (lane_at n (frame_lane h)) t (message_of h part) in
     let v : NodeState = with_lane n (frame_lane h) q in
-    host-same holds n (delivered_after v h part t) (delivered-same n v h part t refl) (lanes-set n (delivered_after v h part t) (frame_lane h) q (delivered-lanes v h part t) (record { tickets = refl; messages = refl })) is
+    host-same holds n (delivered_after v h part t) (delivered-same n v h part t refl) (lanes-set n (delivered_after v h part t) (frame_lane h) q (delivered_after-lanes v h part t) (record { tickets = refl; messages = refl })) is
 
 -- An acknowledgement of a lane finishes as many sends as messages more lie wholly below the first number that isn't acknowledged, and as many tickets wait at least.
 pub record IsFinishing (n : NodeState) (k next : ℕ) : Type 0 where
@@ -148,7 +139,7 @@ module _ (n : NodeState) (k next : ℕ) (is : IsFinishing n k next) where
   left_tickets = drop (finished_by (lane_at n k) next) (lane_at n k).pending
 
   acknowledged-lanes : (all_finished with_acknowledged finished_tickets).lanes ≡ set n.lanes k now_acknowledged
-  acknowledged-lanes = finished-lanes with_acknowledged finished_tickets
+  acknowledged-lanes = all_finished-lanes with_acknowledged finished_tickets
 
   acknowledged-now : lane_at (all_finished with_acknowledged finished_tickets) k ≡ now_acknowledged
   acknowledged-now = lane-new n (all_finished with_acknowledged finished_tickets) k now_acknowledged acknowledged-lanes is.there

@@ -19,7 +19,7 @@ use Rattle.gm_defs.proofs.Takers.{Delivery, delivery}
 use Rattle.world_defs.specs.declared.heard.Heard.{Heard}
 use Rattle.world_defs.specs.Lane.{LaneState, Ticket, new_lane, lane_acknowledged, tickets_finished, lane_after}
 use Rattle.world_defs.specs.Node.{NodeState, lane_count, lane_at, with_lane, port_at, with_port, port_count, new_node}
-use Rattle.world_defs.specs.Hearing.{message_of, is_host, frame_lane, ack_lane, delivered_after, frame_took, all_finished, heard_if, hear_gm_body}
+use Rattle.world_defs.specs.Hearing.{message_of, is_host, frame_lane, ack_lane, delivered_after, frame_took, all_finished, heard_if, messages_read, hear_body}
 use Rattle.world_defs.proofs.Lanes.{lane_of-below}
 use Rattle.world_defs.proofs.Lists.{each-replicate}
 use Rattle.ticket_laws.specs.Tickets.{AreMatched}
@@ -93,7 +93,7 @@ module _ (holds : List ℕ → List ℕ → Type 0) (host hosts : ℕ) (n : Node
         apart = finished-apart (with_lane n (ack_lane a) (lane_acknowledged (lane_at n (ack_lane a)) a.next)) (tickets_finished (lane_at n (ack_lane a)) a.next) is.apart;
       }
 
-  pub heard-kept : (body : List ℕ) (b : Result GmBody NoBody) → Kept (hear_gm_body host hosts n body b).1
+  pub heard-kept : (body : List ℕ) (b : Result GmBody NoBody) → Kept (hear_body host hosts n (messages_read body b)).1
   heard-kept body (Err e) = is
   heard-kept body (Ok (Frame h)) = where_heard (nat_eq h.dst host && is_host hosts h.src) _ (λ e. frame-kept h (part_in body) (frame_took n h))
   heard-kept body (Ok (Acknowledges a)) = where_heard (nat_eq a.dst host && is_host hosts a.src) _ (λ e. ack-kept a (from_host host hosts a.dst a.src e))

@@ -8,7 +8,7 @@ use Rattle.gm_defs.specs.Connection.{IsSender}
 use Rattle.gm_defs.specs.Token.{PortState}
 use Rattle.world_defs.specs.Lane.{Ticket, new_lane}
 use Rattle.world_defs.specs.Node.{NodeState, lane_count, lane_at, due_frame, new_node}
-use Rattle.world_defs.specs.Hearing.{hear_gm_body}
+use Rattle.world_defs.specs.Hearing.{messages_read, hear_body}
 use Rattle.ticket_laws.specs.Host.{AreTicketed, Begins, AllApart, IsTicketed, IsBacked, IsInBuffer}
 
 -- a host is ticketed before anything happened
@@ -19,8 +19,9 @@ NewIsTicketed = (hosts : ℕ) → IsTicketed Begins (new_node hosts).ports (new_
 abbrev pub HeardStaysTicketed : Type 0
 HeardStaysTicketed = (host hosts : ℕ) (n : NodeState)
     → length n.lanes ≡ lane_count hosts → ((lane : ℕ) → IsSender (lane_at n lane).sender)
-    → IsTicketed Begins n.ports n.lanes → (body : List ℕ) (b : Result GmBody Malformed)
-    → IsTicketed Begins (hear_gm_body host hosts n body b).1.ports (hear_gm_body host hosts n body b).1.lanes
+    → IsTicketed Begins n.ports n.lanes → (payload : List ℕ) (b : Result GmBody Malformed)
+    → IsTicketed Begins (hear_body host hosts n (messages_read payload b)).1.ports
+    (hear_body host hosts n (messages_read payload b)).1.lanes
 
 -- a host that forgets what its lanes sent is backed, whatever its queues hold
 abbrev pub ForgottenIsBacked : Type 0
@@ -31,8 +32,9 @@ ForgottenIsBacked = (count : ℕ) (ports : List (Option PortState)) → AllApart
 abbrev pub HeardStaysBacked : Type 0
 HeardStaysBacked = (host hosts : ℕ) (n : NodeState)
     → length n.lanes ≡ lane_count hosts → ((lane : ℕ) → IsSender (lane_at n lane).sender)
-    → IsBacked Begins n.ports n.lanes → (body : List ℕ) (b : Result GmBody Malformed)
-    → IsBacked Begins (hear_gm_body host hosts n body b).1.ports (hear_gm_body host hosts n body b).1.lanes
+    → IsBacked Begins n.ports n.lanes → (payload : List ℕ) (b : Result GmBody Malformed)
+    → IsBacked Begins (hear_body host hosts n (messages_read payload b)).1.ports
+    (hear_body host hosts n (messages_read payload b)).1.lanes
 
 -- the bytes of a fragment that is due stand in the buffer of its ticket's send where the host is backed, too
 abbrev pub BackedIsInBuffer : Type 0

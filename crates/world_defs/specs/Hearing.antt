@@ -32,7 +32,7 @@ use Rattle.world_defs.specs.declared.arrival.Arrival.{Arrival}
 use Rattle.world_defs.specs.declared.arrival.Arrival.TheVariants.{Heard as Hears, Dropped, NotMine}
 use Rattle.world_defs.specs.Table.{TableState, applied}
 use Rattle.world_defs.specs.Lane.{Ticket, lane_acknowledged, tickets_finished, lane_after}
-use Rattle.world_defs.specs.Node.{NodeState, sending_lane, taking_lane, lane_at, with_lane, port_at, with_port}
+use Rattle.world_defs.specs.Node.{NodeState, StagedAck, sending_lane, taking_lane, lane_at, with_lane, port_at, with_port}
 
 -- the address of one of so many hosts
 abbrev pub is_host : ℕ → ℕ → Bool
@@ -44,35 +44,18 @@ heard_if true n (heard, after) = (Hears heard, after)
 heard_if false n (heard, after) = (NotMine, n)
 
 -- a part that was taken is acknowledged by its own way back, in the place of an earlier acknowledgement
+abbrev pub part_answer : Option StagedAck → RoutePart → Applied → Option StagedAck
+part_answer staged p OnePart = Some (record { epoch = p.epoch; part = p.part; back = p.back })
+part_answer staged p Active = Some (record { epoch = p.epoch; part = p.part; back = p.back })
+part_answer staged p Old = staged
+
+-- the host once a part was applied to its table
 abbrev pub part_heard : NodeState → RoutePart → Applied × TableState → NodeState
-part_heard n p (OnePart, t) = record n {
-  table = t;
-  part_ack = Some (record { epoch = p.epoch; part = p.part; back = p.back });
-}
-part_heard n p (Active, t) = record n {
-  table = t;
-  part_ack = Some (record { epoch = p.epoch; part = p.part; back = p.back });
-}
-part_heard n p (Old, t) = record n { table = t }
+part_heard n p r = record n { table = r.1; part_ack = part_answer n.part_ack p r.0 }
 
 -- all addresses of a part are hosts, and the part is for this one
 abbrev pub is_part_for : ℕ → ℕ → RoutePart → Bool
 is_part_for host hosts p = nat_eq p.dst host && is_host hosts p.mapper && list_all (λ e. is_host hosts e.to) p.entries
-
--- What a host makes of a body of the mapper's protocol. A probe stages a reply; a loopback probe is heard by its
--- mapper alone; replies and acknowledgements are heard by any host, and change nothing.
-abbrev pub hear_mapping : ℕ → ℕ → NodeState → MappingBody → Arrival × NodeState
-hear_mapping host hosts n (HostProbe number mapper back) =
-    heard_if (is_host hosts mapper) n (Probe, record n { reply = Some (record { number = number; back = back }) })
-hear_mapping host hosts n (HostReply number from) = heard_if (is_host hosts from) n (Reply number from, n)
-hear_mapping host hosts n (Loopback number mapper) = heard_if (nat_eq mapper host) n (Loop number, n)
-hear_mapping host hosts n (Part p) = heard_if (is_part_for host hosts p) n (Routes, part_heard n p (applied n.table p))
-hear_mapping host hosts n (PartAck epoch from part) = heard_if (is_host hosts from) n (RoutesAck epoch from part, n)
-
--- a body that isn't of the mapper's protocol is dropped
-abbrev pub hear_mapping_body : ℕ → ℕ → NodeState → Option MappingBody → Arrival × NodeState
-hear_mapping_body host hosts n None = (Dropped Malformed, n)
-hear_mapping_body host hosts n (Some body) = hear_mapping host hosts n body
 
 -- a provided token of an open port takes a fragment
 abbrev pub port_takes : Option PortState → FrameHead → Bool
@@ -139,28 +122,48 @@ ack_heard n a =
     all_finished (with_lane n (ack_lane a) (lane_acknowledged (lane_at n (ack_lane a)) a.next))
     (tickets_finished (lane_at n (ack_lane a)) a.next)
 
--- What a host makes of a frame or of an acknowledgement, which must name it and a host that sent it.
-abbrev pub hear_gm : ℕ → ℕ → NodeState → List ℕ → GmBody → Arrival × NodeState
-hear_gm host hosts n body (Frame h) =
-    heard_if (nat_eq h.dst host && is_host hosts h.src) n (frame_heard n h (part_in body) (frame_took n h))
-hear_gm host hosts n body (Acknowledges a) = heard_if (nat_eq a.dst host && is_host hosts a.src) n
-    (AckHeard, ack_heard n a)
+-- What a packet says to a host: a body of the mapper's protocol, a frame with the bytes of its fragment, an
+-- acknowledgement of frames, or nothing that can be read, with the cause of its drop.
+pub data PacketBody : Type 0 where
+  OfMapper : MappingBody → PacketBody
+  OfFrame : FrameHead → List ℕ → PacketBody
+  OfAck : Ack → PacketBody
+  Unread : HostDrop → PacketBody
 
--- a body that is neither a frame nor an acknowledgement is dropped
-abbrev pub hear_gm_body : ℕ → ℕ → NodeState → List ℕ → Result GmBody NoBody → Arrival × NodeState
-hear_gm_body host hosts n body (Err e) = (Dropped Malformed, n)
-hear_gm_body host hosts n body (Ok b) = hear_gm host hosts n body b
+-- a payload of the mapper's protocol that is no body of it is malformed
+abbrev pub mapping_read : Option MappingBody → PacketBody
+mapping_read None = Unread Malformed
+mapping_read (Some body) = OfMapper body
 
--- what a host makes of a body, by its kind
-abbrev pub hear_body : ℕ → ℕ → NodeState → Kind → List ℕ → Arrival × NodeState
-hear_body host hosts n Mapping body = hear_mapping_body host hosts n (decode_mapping body)
-hear_body host hosts n Gm body = hear_gm_body host hosts n body (decode body)
+-- and so is one of messages that is neither a frame nor an acknowledgement
+abbrev pub messages_read : List ℕ → Result GmBody NoBody → PacketBody
+messages_read payload (Err e) = Unread Malformed
+messages_read payload (Ok (Frame h)) = OfFrame h (part_in payload)
+messages_read payload (Ok (Acknowledges a)) = OfAck a
 
--- what a host makes of a packet's body; of a packet that has none it makes a drop
-abbrev pub hear_decoded : ℕ → ℕ → NodeState → Result (Kind × List ℕ) HostDrop → Arrival × NodeState
-hear_decoded host hosts n (Err drop) = (Dropped drop, n)
-hear_decoded host hosts n (Ok (kind, body)) = hear_body host hosts n kind body
+-- what a packet says, of which a kind and a payload were read, or the cause of its drop
+abbrev pub packet_read : Result (Kind × List ℕ) HostDrop → PacketBody
+packet_read (Err drop) = Unread drop
+packet_read (Ok (Mapping, payload)) = mapping_read (decode_mapping payload)
+packet_read (Ok (Gm, payload)) = messages_read payload (decode payload)
+
+-- What a host makes of what a packet says. A probe stages a reply; a loopback probe is heard by its mapper alone;
+-- replies and acknowledgements of parts are heard by any host, and change nothing; a part, a frame and an
+-- acknowledgement must name the host. Each address in it must be a host's. What can't be read is dropped.
+abbrev pub hear_body : ℕ → ℕ → NodeState → PacketBody → Arrival × NodeState
+hear_body host hosts n (Unread drop) = (Dropped drop, n)
+hear_body host hosts n (OfMapper (HostProbe number mapper back)) =
+    heard_if (is_host hosts mapper) n (Probe, record n { reply = Some (record { number = number; back = back }) })
+hear_body host hosts n (OfMapper (HostReply number from)) = heard_if (is_host hosts from) n (Reply number from, n)
+hear_body host hosts n (OfMapper (Loopback number mapper)) = heard_if (nat_eq mapper host) n (Loop number, n)
+hear_body host hosts n (OfMapper (Part p)) =
+    heard_if (is_part_for host hosts p) n (Routes, part_heard n p (applied n.table p))
+hear_body host hosts n (OfMapper (PartAck epoch from part)) =
+    heard_if (is_host hosts from) n (RoutesAck epoch from part, n)
+hear_body host hosts n (OfFrame h part) =
+    heard_if (nat_eq h.dst host && is_host hosts h.src) n (frame_heard n h part (frame_took n h))
+hear_body host hosts n (OfAck a) = heard_if (nat_eq a.dst host && is_host hosts a.src) n (AckHeard, ack_heard n a)
 
 -- A host, one of so many, hears the bytes of a packet that reached it: what it makes of them, and the host then.
 unfoldable pub hear : ℕ → ℕ → NodeState → List ℕ → Arrival × NodeState
-hear host hosts n wire = hear_decoded host hosts n (decode_packet wire)
+hear host hosts n wire = hear_body host hosts n (packet_read (decode_packet wire))

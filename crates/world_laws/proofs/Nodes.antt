@@ -1,33 +1,23 @@
 -- What an event that is no client's call leaves of a host: its lanes and its ports, open as they were, and its senders' numbers in order.
-use Rattle.std.proofs.Common.{◌≡◌, ◌≤◌, ◌<◌, ◌+◌, ℕ, Bool, true, false, ◌&&◌, List, [], ◌∷◌, length, max, nat_eq, nat_lt, Option, Some, None, is_some, option_map, refl, ◌∙◌, subst, arith, if◌then◌else◌, ℤ, Result, Ok, Err}
+use Rattle.std.proofs.Common.{◌≡◌, ◌≤◌, ◌<◌, ◌+◌, ℕ, Bool, true, false, ◌&&◌, List, [], ◌∷◌, length, max, nat_lt, Option, Some, None, is_some, option_map, refl, ◌∙◌, subst, arith, if◌then◌else◌, ℤ}
 use Rattle.std.specs.Prelude.{option_and_then}
 use Rattle.std.proofs.Math.ListN.{length-set}
 use Rattle.std.proofs.lemmas.Bool.Decides.{nat_tests}
 use Rattle.gm_defs.specs.declared.frame.FrameHead.{FrameHead}
 use Rattle.gm_defs.specs.declared.frame.Ack.{Ack}
-use Rattle.gm_defs.specs.declared.frame.GmBody.{GmBody}
-use Rattle.gm_defs.specs.declared.frame.GmBody.TheVariants.{Frame, Ack as Acknowledges}
-use Rattle.gm_defs.specs.declared.frame.Malformed.{Malformed as NoBody}
 use Rattle.gm_defs.specs.declared.token.Took.{Took}
 use Rattle.gm_defs.specs.declared.token.Took.TheVariants.{NotNext as TookNotNext, NoToken as TookNoToken, Part as TookPart, Whole}
-use Rattle.gm_defs.specs.Body.{decode, part_in}
-use Rattle.mapping_defs.specs.Mapping.{RoutePart, MappingBody, decode_mapping}
-use Rattle.mapping_defs.specs.Mapping.MappingBody.{HostProbe, HostReply, Loopback, Part, PartAck}
+use Rattle.gm_defs.specs.Body.{part_in}
 use Rattle.gm_defs.specs.Fragment.{frame_of}
 use Rattle.gm_defs.specs.Connection.{SenderState, IsSender, window, due, sent_one, is_taken, acknowledged, expired}
 use Rattle.gm_defs.specs.Token.{PortState}
 use Rattle.gm_defs.specs.Port.{delivered, finished}
-use Rattle.packet_defs.specs.declared.kind.Kind.{Kind}
-use Rattle.packet_defs.specs.declared.kind.Kind.TheVariants.{Mapping, Gm}
-use Rattle.packet_defs.specs.declared.host_drop.HostDrop.{HostDrop}
-use Rattle.packet_defs.specs.Host.{decode as decode_packet}
-use Rattle.world_defs.specs.declared.applied.Applied.{Applied}
-use Rattle.world_defs.specs.declared.applied.Applied.TheVariants.{Part as OnePart, Active, Old}
-use Rattle.world_defs.specs.declared.heard.Heard.{Heard}
-use Rattle.world_defs.specs.Table.{TableState, applied}
+use Rattle.world_defs.specs.declared.arrival.Arrival.{Arrival}
+use Rattle.world_defs.specs.Table.{TableState}
 use Rattle.world_defs.specs.Lane.{LaneState, Ticket, new_lane, lane_acknowledged, lane_expired, lane_sent_one, lane_answered, tickets_finished, lane_after}
 use Rattle.world_defs.specs.Node.{NodeState, Staged, StagedReply, StagedAck, StagedProbe, StagedPart, Outgoing, Probe, TablePart, Reply, PartAnswer, FrameAnswer, Fragment, lane_of, sends_on, lane_at, with_lane, lane_route, port_at, with_port, outgoing_staged, owed_on, due_on, either, first_some, lanes_of, to_send, after_sending, given_up, with_expired, node_expired}
-use Rattle.world_defs.specs.Hearing.{is_host, frame_lane, ack_lane, heard_if, is_part_for, part_heard, hear_mapping, hear_mapping_body, delivered_after, frame_heard, frame_took, all_finished, ack_heard, hear_gm, hear_gm_body, hear_body, hear_decoded, hear}
+use Rattle.world_defs.specs.Hearing.{frame_lane, ack_lane, delivered_after, frame_heard, frame_took, all_finished, ack_heard, hear}
+use Rattle.world_defs.proofs.Hearings.{Hearing, hearing}
 use Rattle.world_laws.proofs.Lists.{at-set}
 
 -- the numbers of a sender: in order if they were, the base no less, and nothing is offered
@@ -124,27 +114,6 @@ sent_one-kept s low = record {
 }
 
 -- what a host hears
-part_heard-kept : (n : NodeState) (p : RoutePart) (r : Applied × TableState) → NodeKept n (part_heard n p r)
-part_heard-kept n p (OnePart, t) = record { lanes = refl; ports = refl; open_ports = λ port. refl; senders = λ lane. sender_same (lane_at n lane).sender }
-part_heard-kept n p (Active, t) = record { lanes = refl; ports = refl; open_ports = λ port. refl; senders = λ lane. sender_same (lane_at n lane).sender }
-part_heard-kept n p (Old, t) = record { lanes = refl; ports = refl; open_ports = λ port. refl; senders = λ lane. sender_same (lane_at n lane).sender }
-
-heard_if-kept : (b : Bool) (n : NodeState) (r : Heard × NodeState) → NodeKept n r.1 → NodeKept n (heard_if b n r).1
-heard_if-kept true n (heard, after) k = k
-heard_if-kept false n (heard, after) k = node_same n
-
-hear_mapping-kept : (host hosts : ℕ) (n : NodeState) (b : MappingBody) → NodeKept n (hear_mapping host hosts n b).1
-hear_mapping-kept host hosts n (HostProbe number mapper back) =
-    heard_if-kept (is_host hosts mapper) n _ (record { lanes = refl; ports = refl; open_ports = λ port. refl; senders = λ lane. sender_same (lane_at n lane).sender })
-hear_mapping-kept host hosts n (HostReply number from) = heard_if-kept (is_host hosts from) n _ (node_same n)
-hear_mapping-kept host hosts n (Loopback number mapper) = heard_if-kept (nat_eq mapper host) n _ (node_same n)
-hear_mapping-kept host hosts n (Part p) = heard_if-kept (is_part_for host hosts p) n _ (part_heard-kept n p (applied n.table p))
-hear_mapping-kept host hosts n (PartAck epoch from part) = heard_if-kept (is_host hosts from) n _ (node_same n)
-
-hear_mapping_body-kept : (host hosts : ℕ) (n : NodeState) (b : Option MappingBody) → NodeKept n (hear_mapping_body host hosts n b).1
-hear_mapping_body-kept host hosts n None = node_same n
-hear_mapping_body-kept host hosts n (Some b) = hear_mapping-kept host hosts n b
-
 delivered_after-kept : (n : NodeState) (h : FrameHead) (part : List ℕ) (t : Took) → NodeKept n (delivered_after n h part t)
 delivered_after-kept n h part TookNotNext = node_same n
 delivered_after-kept n h part TookNoToken = node_same n
@@ -169,26 +138,15 @@ ack_heard-kept n a =
     let m : NodeState = with_lane n (ack_lane a) (lane_acknowledged (lane_at n (ack_lane a)) a.next) in
     node_after n m (ack_heard n a) (with_lane-kept n (ack_lane a) (lane_acknowledged (lane_at n (ack_lane a)) a.next) (acknowledged-kept (lane_at n (ack_lane a)).sender a.next)) (all_finished-kept m (tickets_finished (lane_at n (ack_lane a)) a.next))
 
-hear_gm-kept : (host hosts : ℕ) (n : NodeState) (body : List ℕ) (b : GmBody) → NodeKept n (hear_gm host hosts n body b).1
-hear_gm-kept host hosts n body (Frame h) =
-    heard_if-kept (nat_eq h.dst host && is_host hosts h.src) n _ (frame_heard-kept n h (part_in body) (frame_took n h))
-hear_gm-kept host hosts n body (Acknowledges a) = heard_if-kept (nat_eq a.dst host && is_host hosts a.src) n _ (ack_heard-kept n a)
-
-hear_gm_body-kept : (host hosts : ℕ) (n : NodeState) (body : List ℕ) (r : Result GmBody NoBody) → NodeKept n (hear_gm_body host hosts n body r).1
-hear_gm_body-kept host hosts n body (Err e) = node_same n
-hear_gm_body-kept host hosts n body (Ok b) = hear_gm-kept host hosts n body b
-
-hear_body-kept : (host hosts : ℕ) (n : NodeState) (k : Kind) (body : List ℕ) → NodeKept n (hear_body host hosts n k body).1
-hear_body-kept host hosts n Mapping body = hear_mapping_body-kept host hosts n (decode_mapping body)
-hear_body-kept host hosts n Gm body = hear_gm_body-kept host hosts n body (decode body)
-
-hear_decoded-kept : (host hosts : ℕ) (n : NodeState) (r : Result (Kind × List ℕ) HostDrop) → NodeKept n (hear_decoded host hosts n r).1
-hear_decoded-kept host hosts n (Err drop) = node_same n
-hear_decoded-kept host hosts n (Ok (kind, body)) = hear_body-kept host hosts n kind body
-
 pub hear-kept : (host hosts : ℕ) (n : NodeState) (wire : List ℕ) → NodeKept n (hear host hosts n wire).1
-unfolding hear
-hear-kept host hosts n wire = hear_decoded-kept host hosts n (decode_packet wire)
+hear-kept host hosts n wire = by (hearing host hosts n wire)
+  where
+    by : {r : Arrival × NodeState} → Hearing host hosts n wire r → NodeKept n r.1
+    by (Hearing.stays a) = node_same n
+    by (Hearing.probe body number mapper back e d) = record { lanes = refl; ports = refl; open_ports = λ port. refl; senders = λ lane. sender_same (lane_at n lane).sender }
+    by (Hearing.part body p e d mine) = record { lanes = refl; ports = refl; open_ports = λ port. refl; senders = λ lane. sender_same (lane_at n lane).sender }
+    by (Hearing.frame body h e d mine from) = frame_heard-kept n h (part_in body) (frame_took n h)
+    by (Hearing.ack body a e d mine from) = ack_heard-kept n a
 
 -- a fragment that is sent first is due
 abbrev IsDue : NodeState → Outgoing → Type 0
