@@ -91,21 +91,11 @@ stepped-epoch s Accept packets = absurd (true≢false packets)
 -- every event
 fault-no_accept : (c : ℕ) (f : Fault) → is_accept (fault_step c f) ≡ false
 fault-no_accept c LoseFault = refl
-fault-no_accept c RepeatFault = refl
-fault-no_accept c HoldFault = refl
-fault-no_accept c (FlipFault bit pattern) = refl
-fault-no_accept c (PullFault at) = refl
+fault-no_accept c _ = refl
 
 links-no_accept : {w : WorldState} {e : Event} {x : Effect} {s : Step} → LinksChange w e x s → is_accept s ≡ false
 links-no_accept (LinksChange.moves packet next d e f g) = refl
-links-no_accept (LinksChange.loses e) = refl
-links-no_accept (LinksChange.resets e) = refl
-links-no_accept (LinksChange.repeats e) = refl
-links-no_accept (LinksChange.holds e) = refl
-links-no_accept (LinksChange.flips e) = refl
-links-no_accept (LinksChange.replays e) = refl
-links-no_accept (LinksChange.pulls e) = refl
-links-no_accept (LinksChange.plugs e) = refl
+links-no_accept _ = refl
 
 strike-epoch : {w v : WorldState} {c : ℕ} → Strike w c v → v.links.epoch ≡ w.links.epoch
 strike-epoch (Strike.spares e) = refl

@@ -1,5 +1,5 @@
 -- Where a packet comes that was built, and what a host hears of it.
-use Rattle.std.proofs.Common.{◌≡◌, ◌≢◌, ◌<◌, ◌+◌, ℕ, suc, true, false, nat_le, ℤ, List, [], ◌∷◌, length, Option, Some, None, Err, refl, sym, ap, ◌∙◌, subst, arith, if◌then◌else◌}
+use Rattle.std.proofs.Common.{◌≡◌, ◌≢◌, ◌<◌, ◌+◌, ℕ, suc, true, false, nat_le, ℤ, List, [], ◌∷◌, length, Option, Some, None, Ok, Err, refl, sym, ap, ◌∙◌, subst, arith, if◌then◌else◌}
 use Rattle.std.specs.List.{AllByRecursion, slice_get}
 use Rattle.std.specs.Option.{option_and_then}
 use Rattle.std.proofs.lemmas.List.{set-get_or}
@@ -38,9 +38,10 @@ use Rattle.mapping_defs.proofs.Mappings.{mapping-read}
 use Rattle.world_defs.specs.declared.effect.Effect.{Effect}
 use Rattle.world_defs.specs.declared.arrival.Arrival.TheVariants.{Dropped}
 use Rattle.world_defs.specs.Node.{NodeState, new_node}
-use Rattle.world_defs.specs.Hearing.{hear_mapping, hear_mapping_body, hear_decoded, hear}
+use Rattle.world_defs.specs.Hearing.{OfMapper, mapping_read, hear_body, hear}
 use Rattle.world_defs.specs.World.{WorldState, host_count, node_at, with_links}
 use Rattle.world_defs.specs.Step.{arrived}
+use Rattle.world_defs.proofs.Hearings.{heard-as}
 use Rattle.ask_laws.proofs.Lone.{bare, Goes, goes-difference}
 use Rattle.ask_laws.proofs.Drained.{told, landed_in}
 
@@ -137,14 +138,9 @@ built-comes cables host c route payload m turns at g =
     subst (λ p. Comes p Mapping payload m) (lone-place cables host route payload c turns at) (comes cables c route Mapping payload m g)
 
 -- what a host hears of a body of the mapper's protocol
-pub hear-body : (h hosts : ℕ) (n : NodeState) (b : MappingBody) → is_mapping b ≡ true → hear h hosts n (packet_of [] Mapping (mapping_bytes b)) ≡ hear_mapping h hosts n b
-unfolding hear
+pub hear-body : (h hosts : ℕ) (n : NodeState) (b : MappingBody) → is_mapping b ≡ true → hear h hosts n (packet_of [] Mapping (mapping_bytes b)) ≡ hear_body h hosts n (OfMapper b)
 hear-body h hosts n b is =
-    ap (hear_decoded h hosts n) (decode-packet_of Mapping (mapping_bytes b)) ∙ ap (hear_mapping_body h hosts n) (mapping-read b is)
-
-hear-drop : (h hosts : ℕ) (n : NodeState) (wire : List ℕ) (drop : HostDrop) → decode wire ≡ Err drop → hear h hosts n wire ≡ (Dropped drop, n)
-unfolding hear
-hear-drop h hosts n wire drop e = ap (hear_decoded h hosts n) e
+    heard-as h hosts n (packet_of [] Mapping (mapping_bytes b)) (Ok (Mapping, mapping_bytes b)) (decode-packet_of Mapping (mapping_bytes b)) ∙ ap (λ o. hear_body h hosts n (mapping_read o)) (mapping-read b is)
 
 -- A packet left the links unheard.
 pub record Unheard (v : WorldState) (r : Effect × WorldState) : Type 0 where
@@ -170,7 +166,7 @@ unheard v Empty all = record { heard = refl; nodes = refl; clients = refl; adopt
 unheard v (AtHost h wire) all =
     let d = all h wire refl in
     let base : WorldState = with_links v (bare v.links) in
-    let e : arrived base h (hear h (host_count v) (node_at v h) wire) ≡ arrived base h (Dropped d.drop, node_at v h) = ap (arrived base h) (hear-drop h (host_count v) (node_at v h) wire d.drop d.is) in
+    let e : arrived base h (hear h (host_count v) (node_at v h) wire) ≡ arrived base h (Dropped d.drop, node_at v h) = ap (arrived base h) (heard-as h (host_count v) (node_at v h) wire (Err d.drop) d.is) in
     let same : Unheard v (arrived base h (Dropped d.drop, node_at v h)) = record { heard = refl; nodes = set-get_or v.nodes h (new_node 0); clients = refl; adopted = refl; plan = refl; injected = refl; struck = refl; harmed = refl } in
     subst (Unheard v) (sym e) same
 

@@ -8,6 +8,8 @@ pub mod Back
 pub mod Comes
 pub mod Stood
 pub mod Parcels
+pub mod Keeping
+pub mod GivingUp
 pub mod Ready
 pub mod Tries
 pub mod Probing

@@ -23,7 +23,7 @@ use Rattle.link_defs.proofs.LonePackets.{no_channel-place}
 use Rattle.mapping_defs.specs.Mapping.{MappingBody, mapping_bytes, is_mapping}
 use Rattle.world_defs.specs.declared.effect.Effect.{Effect}
 use Rattle.world_defs.specs.Node.{Outgoing, is_message, to_send, packet_for, after_sending}
-use Rattle.world_defs.specs.Hearing.{hear_mapping}
+use Rattle.world_defs.specs.Hearing.{OfMapper, hear_body}
 use Rattle.world_defs.specs.World.{WorldState, fabric_of, host_count, last_count, node_at, with_links}
 use Rattle.world_defs.specs.Step.{arrived}
 use Rattle.world_defs.proofs.LogViews.{Sent, sends}
@@ -55,7 +55,7 @@ pub record SendKeeps (w : WorldState) (h : ℕ) (out : Outgoing) (t : WorldState
 
 -- what a host made of a body
 abbrev pub hears_in : WorldState → ℕ → MappingBody → Effect × WorldState
-hears_in base g body = arrived base g (hear_mapping g (host_count base) (node_at base g) body)
+hears_in base g body = arrived base g (hear_body g (host_count base) (node_at base g) (OfMapper body))
 
 -- What became of it.
 pub data Delivery (w : WorldState) (h : ℕ) (out : Outgoing) (route : List ℤ) (body : MappingBody) (s : Sent) : Type 0 where

@@ -13,11 +13,11 @@ use Rattle.world_defs.specs.Step.{step}
 use Rattle.world_defs.specs.Asking.{is_harmed}
 use Rattle.world_defs.proofs.LogViews.{Sent, sends}
 use Rattle.world_laws.proofs.Lists.{at-set}
-use Rattle.ask_laws.specs.Kept.{IsAskKept}
+use Rattle.ask_laws.specs.Kept.{SameNode, IsAskKept}
 use Rattle.ask_laws.proofs.Drained.{told}
 use Rattle.ask_laws.proofs.Stood.{IsOver, over-pulled, over-place, IsMissing, over-missing}
 use Rattle.ask_laws.proofs.Parcels.{IsParcel, hears_in, Delivery, deliver}
-use Rattle.ask_laws.proofs.Ready.{Ready, IsUnstaged, SameNode, kept-both, kept-node, kept-sent, ready-staged, kept-staged, counts-staged, staged-sends, unstaged-probe, ready-sent}
+use Rattle.ask_laws.proofs.Ready.{Ready, IsUnstaged, kept-both, kept-node, kept-sent, ready-staged, kept-staged, counts-staged, staged-sends, unstaged-probe, ready-sent}
 use Rattle.ask_laws.proofs.Tries.{Premises, IsQuietTo, next-fits, calm, harm, used-harm}
 
 -- the world in which a probe is staged

@@ -1,15 +1,11 @@
 -- Between the sends of an ask: idle links, and nothing staged but at the mapper.
-use Rattle.std.proofs.Common.{◌≡◌, ◌≢◌, ◌<◌, ◌≤◌, ◌+◌, ℕ, zero, suc, Bool, true, false, ◌||◌, nat_eq, ℤ, List, [], ◌∷◌, map, length, get_or, set, Some, None, is_some, ⊎_elim, refl, sym, ap, ◌∙◌, subst, arith, true≢false, if◌then◌else◌}
-use Rattle.std.specs.List.{range_with_len}
+use Rattle.std.proofs.Common.{◌≡◌, ◌≢◌, ◌<◌, ◌+◌, ℕ, Bool, true, false, ◌||◌, nat_eq, ℤ, List, [], ◌∷◌, map, length, get_or, set, Some, None, is_some, refl, sym, ap, ◌∙◌, subst, arith, true≢false, if◌then◌else◌}
 use Rattle.std.proofs.Math.ListN.{length-set}
-use Rattle.std.proofs.lemmas.List.{get_or-set_same, get_or-set_other, get_or_past}
-use Rattle.std.proofs.lemmas.Bool.{cases_lt}
+use Rattle.std.proofs.lemmas.List.{get_or-set_same, get_or-set_other}
 use Rattle.std.proofs.lemmas.Bool.Decides.{Decides-eqb}
 use Rattle.net_defs.specs.Network.{Network}
 use Rattle.net_defs.proofs.Growing.{no_some}
 use Rattle.cable_history.specs.History.{fabric_at}
-use Rattle.cable_history.specs.Later.{OnlyPulled}
-use Rattle.cable_history.proofs.Later.{pulled-on}
 use Rattle.world_defs.specs.declared.event.Event.TheVariants.{Ask, GiveUp}
 use Rattle.world_defs.specs.declared.effect.Effect.{Effect}
 use Rattle.world_defs.specs.Node.{NodeState, StagedProbe, Outgoing, Probe, Reply, StagedReply, new_node, has_staged, given_up, to_send, after_sending}
@@ -19,80 +15,27 @@ use Rattle.world_defs.specs.Asking.{all_given_up}
 use Rattle.world_laws.proofs.Lists.{at-set}
 use Rattle.world_defs.specs.EightBits.{HasByteFaults}
 use Rattle.ask_laws.specs.Premises.{CanAsk}
-use Rattle.ask_laws.specs.Kept.{IsAskKept}
+use Rattle.ask_laws.specs.Kept.{SameNode, IsAskKept}
 use Rattle.ask_laws.proofs.Lone.{IsBare, idle-bare}
 use Rattle.ask_laws.proofs.Stood.{IsOver, over-pulled}
 use Rattle.ask_laws.proofs.Parcels.{SendKeeps}
-
--- what an ask leaves of a host
-pub record SameNode (n m : NodeState) : Type 0 where
-  pub table : m.table ≡ n.table
-  pub lanes : m.lanes ≡ n.lanes
-  pub ports : m.ports ≡ n.ports
+use Rattle.ask_laws.proofs.Keeping.{Stays, world-same, world-both, world-node, world-sent, nodes-at}
+use Rattle.ask_laws.proofs.GivingUp.{all-so}
 
 pub same-node : (n : NodeState) → SameNode n n
 same-node n = record { table = refl; lanes = refl; ports = refl }
 
+node-stays : Stays SameNode
+node-stays = record { same = same-node; both = λ k m n a b. record { table = b.table ∙ a.table; lanes = b.lanes ∙ a.lanes; ports = b.ports ∙ a.ports } }
+
 pub kept-same : (w : WorldState) → IsAskKept w w
-kept-same w = record {
-  pulled = OnlyPulled.still;
-  hosts = refl;
-  table = λ h. refl;
-  lanes = λ h. refl;
-  ports = λ h. refl;
-  clients = refl;
-  adopted = refl;
-  unplanned = λ number e. e;
-  byte_flips = λ all. all;
-  injected = omega arith;
-  struck = omega arith;
-  harmed = omega arith;
-}
+kept-same w = world-same SameNode node-stays w
 
 pub kept-both : (u v w : WorldState) → IsAskKept u v → IsAskKept v w → IsAskKept u w
-kept-both u v w a b =
-    let i0 = a.injected in
-    let i1 = b.injected in
-    let s0 = a.struck in
-    let s1 = b.struck in
-    let h0 = a.harmed in
-    let h1 = b.harmed in
-    record {
-      pulled = pulled-on a.pulled b.pulled;
-      hosts = b.hosts ∙ a.hosts;
-      table = λ h. b.table h ∙ a.table h;
-      lanes = λ h. b.lanes h ∙ a.lanes h;
-      ports = λ h. b.ports h ∙ a.ports h;
-      clients = b.clients ∙ a.clients;
-      adopted = b.adopted ∙ a.adopted;
-      unplanned = λ number e. b.unplanned number (a.unplanned number e);
-      byte_flips = λ all. b.byte_flips (a.byte_flips all);
-      injected = omega (arith, i0, i1);
-      struck = omega (arith, s0, s1);
-      harmed = omega (arith, h0, h1);
-    }
-
--- one host changed
-set-node : (w : WorldState) (h : ℕ) (n : NodeState) → SameNode (node_at w h) n → (g : ℕ) → SameNode (node_at w g) (get_or (set w.nodes h n) g (new_node 0))
-set-node w h n k g = at-set SameNode same-node w.nodes h g n (new_node 0) k
+kept-both u v w a b = world-both SameNode node-stays u v w a b
 
 pub kept-node : (w : WorldState) (h : ℕ) (n : NodeState) → SameNode (node_at w h) n → IsAskKept w (with_node w h n)
-kept-node w h n k =
-    let each = set-node w h n k in
-    record {
-      pulled = OnlyPulled.still;
-      hosts = length-set w.nodes h n;
-      table = λ g. (each g).table;
-      lanes = λ g. (each g).lanes;
-      ports = λ g. (each g).ports;
-      clients = refl;
-      adopted = refl;
-      unplanned = λ number e. e;
-      byte_flips = λ all. all;
-      injected = omega arith;
-      struck = omega arith;
-      harmed = omega arith;
-    }
+kept-node w h n k = world-node SameNode node-stays w h n k
 
 -- what an ask's hosts send
 abbrev pub IsOfMapper : Outgoing → Type 0
@@ -106,29 +49,8 @@ sent-node n (Probe walk looped) is = record { table = refl; lanes = refl; ports 
 sent-node n (Reply r) is = record { table = refl; lanes = refl; ports = refl }
 sent-node n _ is = absurd is
 
-nodes-at : (w t : WorldState) (h g : ℕ) (n : NodeState) → t.nodes ≡ set w.nodes h n → node_at t g ≡ get_or (set w.nodes h n) g (new_node 0)
-nodes-at w t h g n e = ap (λ ns. get_or ns g (new_node 0)) e
-
 pub kept-sent : (w : WorldState) (h : ℕ) (out : Outgoing) (t : WorldState) → IsOfMapper out → SendKeeps w h out t → IsAskKept w t
-kept-sent w h out t is k =
-    let n : NodeState = after_sending (node_at w h) out in
-    let each = set-node w h n (sent-node (node_at w h) out is) in
-    let at = λ (g : ℕ). nodes-at w t h g n k.nodes in
-    let i = k.injected in
-    record {
-      pulled = k.pulled;
-      hosts = ap length k.nodes ∙ length-set w.nodes h n;
-      table = λ g. ap (λ (x : NodeState). x.table) (at g) ∙ (each g).table;
-      lanes = λ g. ap (λ (x : NodeState). x.lanes) (at g) ∙ (each g).lanes;
-      ports = λ g. ap (λ (x : NodeState). x.ports) (at g) ∙ (each g).ports;
-      clients = k.clients;
-      adopted = k.adopted;
-      unplanned = k.unplanned;
-      byte_flips = k.byte_flips;
-      injected = omega (arith, i);
-      struck = k.struck;
-      harmed = k.harmed;
-    }
+kept-sent w h out t is k = world-sent SameNode node-stays w h out t (sent-node (node_at w h) out is) k
 
 -- a host has nothing staged
 abbrev pub IsUnstaged : WorldState → ℕ → Type 0
@@ -230,70 +152,36 @@ record Aside (w v : WorldState) : Type 0 where
   plan : v.plan ≡ w.plan
   injected : v.injected ≡ w.injected
   harmed : v.harmed ≡ w.harmed
-  unstaged : (h : ℕ) → IsUnstaged w h → IsUnstaged v h
 
 gave_up-aside : (w : WorldState) (h : ℕ) (b : Bool) → Aside w (if b then (let r : Effect × WorldState = (Effect.GaveUp, with_node w h (given_up (node_at w h))) in r) else (Effect.Idle, w)).1
-gave_up-aside w h true = record {
-  links = refl;
-  plan = refl;
-  injected = refl;
-  harmed = refl;
-  unstaged = λ g none. at-set (λ (x y : NodeState). x.staged ≡ None → y.staged ≡ None) (λ x e. e) w.nodes h g (given_up (node_at w h)) (new_node 0) (λ e. refl) none;
-}
-gave_up-aside w h false = record { links = refl; plan = refl; injected = refl; harmed = refl; unstaged = λ g none. none }
+gave_up-aside w h true = record { links = refl; plan = refl; injected = refl; harmed = refl }
+gave_up-aside w h false = record { links = refl; plan = refl; injected = refl; harmed = refl }
 
 given_up-aside : (w : WorldState) (h : ℕ) → Aside w (step w (GiveUp h)).1
 unfolding gave_up
 given_up-aside w h = gave_up-aside w h (has_staged (node_at w h))
-
-first-false : (a b c : Bool) → (a || b || c) ≡ false → a ≡ false
-first-false true b c e = absurd (true≢false e)
-first-false false b c e = refl
-
-gave_up-unstaged : (w : WorldState) (h : ℕ) → h < host_count w → (b : Bool) → has_staged (node_at w h) ≡ b → IsUnstaged (if b then (let r : Effect × WorldState = (Effect.GaveUp, with_node w h (given_up (node_at w h))) in r) else (Effect.Idle, w)).1 h
-gave_up-unstaged w h low true e = ap (λ (x : NodeState). x.staged) (get_or-set_same w.nodes h (given_up (node_at w h)) (new_node 0) low)
-gave_up-unstaged w h low false e = no_some (node_at w h).staged (first-false (is_some (node_at w h).staged) (is_some (node_at w h).reply) (is_some (node_at w h).part_ack) e)
-
-given_up-unstaged : (w : WorldState) (h : ℕ) → h < host_count w → IsUnstaged (step w (GiveUp h)).1 h
-unfolding gave_up
-given_up-unstaged w h low = gave_up-unstaged w h low (has_staged (node_at w h)) refl
 
 all-kept : (w : WorldState) (hs : List ℕ) → IsAskKept w (after_all w (map GiveUp hs))
 all-kept w [] = kept-same w
 all-kept w (h ∷ hs) = let next : WorldState = (step w (GiveUp h)).1 in kept-both w next (after_all next (map GiveUp hs)) (kept-given_up w h) (all-kept next hs)
 
 all-aside : (w : WorldState) (hs : List ℕ) → Aside w (after_all w (map GiveUp hs))
-all-aside w [] = record { links = refl; plan = refl; injected = refl; harmed = refl; unstaged = λ g none. none }
+all-aside w [] = record { links = refl; plan = refl; injected = refl; harmed = refl }
 all-aside w (h ∷ hs) =
     let next : WorldState = (step w (GiveUp h)).1 in
     let a = given_up-aside w h in
     let b = all-aside next hs in
-    record { links = b.links ∙ a.links; plan = b.plan ∙ a.plan; injected = b.injected ∙ a.injected; harmed = b.harmed ∙ a.harmed; unstaged = λ g none. b.unstaged g (a.unstaged g none) }
+    record { links = b.links ∙ a.links; plan = b.plan ∙ a.plan; injected = b.injected ∙ a.injected; harmed = b.harmed ∙ a.harmed }
 
-range-unstaged : (w : WorldState) (a k : ℕ) → a + k ≡ host_count w → (h : ℕ) → a ≤ h → h < a + k → IsUnstaged (after_all w (map GiveUp (range_with_len a k))) h
-range-unstaged w a zero all h low high = absurd (omega (arith, low, high))
-range-unstaged w a (suc k) all h low high =
-    ⊎_elim
-    (λ l.
-    let same : a ≡ h = omega (arith, l, low) in
-    let here : IsUnstaged next a = given_up-unstaged w a (omega (arith, all)) in
-    (all-aside next (range_with_len (a + 1) k)).unstaged h (subst (IsUnstaged next) same here))
-    (λ l. range-unstaged next (a + 1) k (omega (arith, all, more)) h l (omega (arith, high)))
-    (cases_lt h (a + 1))
-  where
-    next : WorldState
-    next = (step w (GiveUp a)).1
+first-false : (a b c : Bool) → (a || b || c) ≡ false → a ≡ false
+first-false true b c e = absurd (true≢false e)
+first-false false b c e = refl
 
-    more : host_count next ≡ host_count w
-    more = (kept-given_up w a).hosts
+unstaged-blank : (n : NodeState) → has_staged n ≡ false → n.staged ≡ None
+unstaged-blank n e = no_some n.staged (first-false (is_some n.staged) (is_some n.reply) (is_some n.part_ack) e)
 
 pub all-unstaged : (w : WorldState) (h : ℕ) → IsUnstaged (all_given_up w) h
-all-unstaged w h =
-    ⊎_elim (λ low. range-unstaged w 0 (host_count w) (omega arith) h (omega arith) (omega (arith, low)))
-    (λ high.
-    let long = (all-kept w (addresses w)).hosts in
-    ap (λ (x : NodeState). x.staged) (get_or_past (all_given_up w).nodes h (new_node 0) (omega (arith, high, long))))
-    (cases_lt h (host_count w))
+all-unstaged w h = all-so (λ (n : NodeState). n.staged ≡ None) (record { given = λ n. refl; blank = unstaged-blank; absent = refl }) w h
 
 pub kept-start : (w : WorldState) → IsAskKept w (all_given_up w)
 kept-start w = all-kept w (addresses w)

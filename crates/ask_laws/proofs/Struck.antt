@@ -165,7 +165,7 @@ pub record StruckSo (u v : WorldState) (c : ℕ) (held : Held) : Type 0 where
   pub outcome : Outcome u v c held
 
 -- the plan without one fault
-without-none : (test other : ℕ → Bool) (fs : List (ℕ × Fault)) → lookup other fs ≡ None → lookup other (remove_entry test fs) ≡ None
+pub without-none : (test other : ℕ → Bool) (fs : List (ℕ × Fault)) → lookup other fs ≡ None → lookup other (remove_entry test fs) ≡ None
 without-none test other [] e = refl
 without-none test other (f ∷ fs) e = by (test f.0) (other f.0) refl e (without-none test other fs)
   where

@@ -1,5 +1,5 @@
 -- What is printed names hosts and switches alone: it is the same whatever the cables.
-use Rattle.std.proofs.Common.{◌≡◌, ℕ, ℤ, Bool, List, [], ◌∷◌, ◌++◌, slice_get, codes, decimal, Option, Some, None, refl, sym, ◌∙◌, ap}
+use Rattle.std.proofs.Common.{◌≡◌, ℕ, Bool, List, [], ◌∷◌, ◌++◌, slice_get, codes, decimal, Option, Some, None, refl, sym, ◌∙◌, ap}
 use Rattle.std.specs.Prelude.{flat_map}
 use Rattle.net_defs.specs.declared.vertex.Vertex.{Vertex}
 use Rattle.net_defs.specs.declared.vertex.Vertex.TheVariants.{Host, Switch}
@@ -13,16 +13,15 @@ use Rattle.map_defs.specs.declared.vertex.MapCable.{MapCable}
 use Rattle.map_defs.specs.NetMap.{NetMap}
 use Rattle.fab_text.specs.Written.{line_text as line_of}
 use Rattle.world_defs.specs.declared.effect.Said.{Said}
-use Rattle.world_defs.specs.declared.effect.Said.TheVariants.{Done, Count, Token, Sent, Received, Nothing, Refused as SaidRefused}
-use Rattle.run_defs.specs.declared.line.ClientCall.{ClientCall}
+use Rattle.world_defs.specs.declared.effect.Said.TheVariants.{Done}
 use Rattle.run_defs.specs.declared.line.StepWords.{StepWords}
-use Rattle.run_defs.specs.declared.line.StepWords.TheVariants.{Idle, Injected, Moved, Blocked, Arrived, Dropped, Lost, Reset, Flipped, Expired, GaveUp, Repeated, Held, Replayed}
+use Rattle.run_defs.specs.declared.line.StepWords.TheVariants.{Moved, Blocked, Replayed}
 use Rattle.run_defs.specs.declared.line.Line.{Line}
-use Rattle.run_defs.specs.declared.line.Line.TheVariants.{Refused, Walk, Map, MapBusy, Circuit, CircuitNodes, Routes, Route, Rank, EndRoutes, NoMap, Installed, Table, InstallRefused, Client, Tokens, PlanAt, Step, Settle, Finish, GenHead, GenMap, GenCount, Duo, Pull, Plug, Revoked, Broken, EndBroken, NoBroken}
-use Rattle.run_defs.specs.LineText.{call_word, host_name, end_words, pull_words, plug_words, walk_words, said_words, step_words, turn_text, vertex_text, vertex_words, vertices_text, vertex_at, cable_words, map_text, words_in, piece_text, output_text}
+use Rattle.run_defs.specs.declared.line.Line.TheVariants.{Walk, Rank, Client, Step, Pull, Plug}
+use Rattle.run_defs.specs.LineText.{call_word, host_name, pull_words, plug_words, walk_words, said_words, step_words, turn_text, vertex_text, vertex_words, vertices_text, vertex_at, cable_words, map_text, words_in, piece_text, output_text}
 use Rattle.run_defs.specs.Output.{Piece, OneLine, MapLines}
 use Rattle.run_defs.specs.Summary.{figures_in}
-use Rattle.fab_report.specs.Printed.{PrintedState, printed_of}
+use Rattle.fab_report.specs.Printed.{printed_of}
 
 -- the hosts and the switches of a fabric, without its cables
 abbrev bare : Network → Network
@@ -40,66 +39,28 @@ walk-bare n Stuck = refl
 
 said-bare : (n : Network) (said : Said) → said_words n said ≡ said_words (bare n) said
 said-bare n Done = refl
-said-bare n (Count c) = refl
-said-bare n (Token t) = refl
-said-bare n (Sent t) = refl
-said-bare n (Received t from sport prio body) = refl
-said-bare n Nothing = refl
-said-bare n (SaidRefused cause) = refl
+said-bare n _ = refl
 
 step-bare : (n : Network) (words : StepWords) → step_words n words ≡ step_words (bare n) words
-step-bare n Idle = refl
-step-bare n (Injected k) = refl
 step-bare n (Moved e) = ap (λ name. codes "moved" ∷ name ∷ decimal e.p ∷ []) (name-bare n e.v)
 step-bare n (Blocked e) = ap (λ name. codes "blocked" ∷ name ∷ decimal e.p ∷ []) (name-bare n e.v)
-step-bare n (Arrived h heard) = refl
-step-bare n (Dropped cause) = refl
-step-bare n Lost = refl
-step-bare n Reset = refl
-step-bare n Flipped = refl
-step-bare n Expired = refl
-step-bare n GaveUp = refl
-step-bare n (Repeated serial) = refl
-step-bare n (Held serial) = refl
 step-bare n (Replayed e) = ap (λ name. codes "replayed" ∷ name ∷ decimal e.p ∷ []) (name-bare n e.v)
+step-bare n _ = refl
 
 vertex-bare : (n : Network) (v : MapVertex) → vertex_text n v ≡ vertex_text (bare n) v
 vertex-bare n (MapHost h) = refl
 vertex-bare n (MapSwitch s) = refl
 
 words-bare : (n : Network) (l : Line) → words_in n l ≡ words_in (bare n) l
-words-bare n (Refused line kind) = refl
 words-bare n (Walk place) = ap (λ ws. codes "walk" ∷ ws) (walk-bare n place)
-words-bare n (Map host words asks packets) = refl
-words-bare n (MapBusy host) = refl
-words-bare n (Circuit host depth asks) = refl
-words-bare n (CircuitNodes host asks) = refl
-words-bare n (Routes count) = refl
-words-bare n (Route from to walk) = refl
 words-bare n (Rank v p rank) = ap (λ text. codes "rank" ∷ text ∷ turn_text p ∷ decimal rank ∷ []) (vertex-bare n v)
-words-bare n EndRoutes = refl
-words-bare n NoMap = refl
-words-bare n (Installed acked total) = refl
-words-bare n (Table host active) = refl
-words-bare n (InstallRefused cause) = refl
 words-bare n (Client call host port said) = ap (λ ws. call_word call ∷ host_name n host ∷ decimal port ∷ ws) (said-bare n said)
-words-bare n (Tokens host port sends recvs) = refl
-words-bare n (PlanAt number) = refl
 words-bare n (Step words) = ap (λ ws. codes "step" ∷ ws) (step-bare n words)
-words-bare n (Settle rounds resets unacked) = refl
-words-bare n (Finish injected dropped) = refl
-words-bare n (GenHead count seed hosts switches cables) = refl
-words-bare n (GenMap words asks packets) = refl
-words-bare n (GenCount taken received) = refl
-words-bare n (Duo did) = refl
 words-bare n (Pull at done) = ap (λ name. codes "pull" ∷ name ∷ decimal at.p ∷ pull_words done) (name-bare n at.v)
 words-bare n (Plug a b words) =
     ap (λ name. codes "plug" ∷ name ∷ decimal a.p ∷ name_of n b.v ∷ decimal b.p ∷ plug_words words) (name-bare n a.v)
     ∙ ap (λ name. codes "plug" ∷ name_of (bare n) a.v ∷ decimal a.p ∷ name ∷ decimal b.p ∷ plug_words words) (name-bare n b.v)
-words-bare n (Revoked count) = refl
-words-bare n (Broken from to) = refl
-words-bare n EndBroken = refl
-words-bare n NoBroken = refl
+words-bare n _ = refl
 
 -- the lines of a map
 marked-bare : (n : Network) (v : MapVertex) (core : Bool) → vertex_words n v core ≡ vertex_words (bare n) v core

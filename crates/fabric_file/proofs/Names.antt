@@ -23,55 +23,19 @@ use Rattle.fab_text.specs.declared.fault.NumFault.TheVariants.{NotNumber, TooLar
 use Rattle.fab_text.specs.Fault.{as_kind}
 use Rattle.fabric_file.specs.Declaring.{number_word}
 use Rattle.fabric_file.specs.Reading.{AreNamed}
-use Rattle.fabric_file.proofs.Texts.{is_plain_byte, is_plain}
+use Rattle.fabric_file.proofs.PlainLines.{is_plain}
+use Rattle.fabric_file.proofs.PlainWords.{number-plain, number-read}
 use Rattle.fabric_file.proofs.Cutting.{position-cons}
 
 abbrev pub IsNamed : List ℕ → Type 0
 IsNamed name = name_test name ≡ true
 
-name-byte-plain : (b : ℕ) → is_name_byte b ≡ true → is_plain_byte b ≡ true
-name-byte-plain b e = grind (arith, nat_tests)
-
-name-bytes-plain : (w : List ℕ) → list_all is_name_byte w ≡ true → list_all is_plain_byte w ≡ true
-name-bytes-plain [] e = refl
-name-bytes-plain (b ∷ bs) e = let two = both (is_name_byte b) (list_all is_name_byte bs) e in λ i. name-byte-plain b two.0 i && name-bytes-plain bs two.1 i
-
-pub name-plain : (name : List ℕ) → IsNamed name → is_plain name ≡ true
-name-plain [] e = absurd (true≢false (sym e))
-name-plain (b ∷ bs) e = name-bytes-plain (b ∷ bs) (both _ (list_all is_name_byte (b ∷ bs)) e).1
-
 -- a small number is printed and read as what it is
 abbrev pub IsFine : ℕ → Type 0
 IsFine p = (number_word (decimal p) ≡ Ok p) × (is_plain (decimal p) ≡ true)
 
-digit-test : (c : ℕ) → digit_value c < 10 → is_digit c ≡ true
-digit-test c h = grind (arith, nat_tests)
-
-digit-plain : (c : ℕ) → is_digit c ≡ true → is_plain_byte c ≡ true
-digit-plain c e = grind (arith, nat_tests)
-
-digits-tests : (ds : List ℕ) → AllDigits 10 ds → list_all is_digit ds ≡ true
-digits-tests [] all = refl
-digits-tests (d ∷ ds) all = λ i. digit-test d all.0 i && digits-tests ds all.1 i
-
-digits-plain : (ds : List ℕ) → AllDigits 10 ds → list_all is_plain_byte ds ≡ true
-digits-plain [] all = refl
-digits-plain (d ∷ ds) all = λ i. digit-plain d (digit-test d all.0) i && digits-plain ds all.1 i
-
-numeral-plain : (ds : List ℕ) → 0 < length ds → AllDigits 10 ds → is_plain ds ≡ true
-numeral-plain [] h all = absurd (omega arith)
-numeral-plain (d ∷ ds) h all = digits-plain (d ∷ ds) all
-
 pub small-fine : (p : ℕ) → p ≤ 16 → IsFine p
-small-fine p h =
-    let printed = decimal_is_IsNumeral p (omega arith) in
-    let some : nat_lt 0 (length (decimal p)) ≡ true = let k : 0 < length (decimal p) = printed.0.0 in grind (arith, nat_tests) in
-    let digits = digits-tests (decimal p) printed.0.1 in
-    let few : nat_le p (2 ^ 32 - 1) ≡ true = grind (arith, nat_tests) in (
-      (λ i. as_kind (if some i && digits i then (if nat_le (printed.1 i) (2 ^ 32 - 1) then Ok (printed.1 i) else Err TooLarge) else Err NotNumber))
-          ∙ (λ i. as_kind (if few i then Ok p else Err TooLarge)),
-      numeral-plain (decimal p) printed.0.0 printed.0.1,
-    )
+small-fine p h = (ap as_kind (number-read (2 ^ 32 - 1) p (omega arith) (omega arith)), number-plain p)
 
 -- what holds of each element holds of one by its place
 pub all-nth : {X : Type 0} (P : X → Type 0) (xs : List X) (i : ℕ) (x : X) → AllByRecursion P xs → slice_get xs i ≡ Some x → P x

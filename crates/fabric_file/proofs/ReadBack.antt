@@ -1,5 +1,5 @@
 -- A printed fabric is read back: its hosts, then its switches, then its cables.
-use Rattle.std.proofs.Common.{◌≡◌, ◌≢◌, ◌<◌, ◌≤◌, ℕ, ◌+◌, ◌-◌, List, [], ◌∷◌, ◌++◌, ◌||◌, true, false, not, map, length, nat_le, nat_lt, Some, None, is_some, Ok, Err, refl, ap, sym, subst, ◌∙◌, append_assoc, length-append, arith, if◌then◌else◌}
+use Rattle.std.proofs.Common.{◌≡◌, ◌≢◌, ◌<◌, ◌≤◌, ℕ, ◌+◌, ◌-◌, List, [], ◌∷◌, ◌++◌, ◌||◌, true, false, not, map, length, nat_le, nat_lt, Some, None, is_some, Ok, Err, refl, ap, sym, subst, ◌∙◌, append_assoc, append-nil, length-append, arith, if◌then◌else◌}
 use Rattle.std.specs.Prelude.{bytes_eq, codes, decimal, flat_map}
 use Rattle.std.specs.List.{AllByRecursion, list_any}
 use Rattle.std.proofs.lemmas.Bool.Decides.{nat_tests}
@@ -20,11 +20,8 @@ use Rattle.fabric_file.specs.Reading.{fabric_from, AreNamed}
 use Rattle.fab_text.specs.Written.{line_text}
 use Rattle.fabric_file.specs.Printing.{host_words, switch_words, cable_words, hosts_text, switches_text, cables_text, fabric_text, fabric_lines, script_line, IsReadBack}
 use Rattle.fabric_file.proofs.Texts.{printed-declares, printed-script}
-use Rattle.fabric_file.proofs.Names.{IsNamed, IsFine, name-plain, small-fine, apart-before, apart-behind, apart-front, all-behind, all-before, fresh, name-names, count-small, port-small, vertex-there}
-
-append-none : {X : Type 0} (xs : List X) → xs ++ [] ≡ xs
-append-none [] = refl
-append-none (x ∷ xs) = ap (λ l. x ∷ l) (append-none xs)
+use Rattle.fabric_file.proofs.PlainWords.{name-plain}
+use Rattle.fabric_file.proofs.Names.{IsNamed, IsFine, small-fine, apart-before, apart-behind, apart-front, all-behind, all-before, fresh, name-names, count-small, port-small, vertex-there}
 
 -- hosts alone
 abbrev hosts_alone : List (List ℕ) → Network
@@ -32,7 +29,7 @@ hosts_alone hosts = record { hosts = hosts; switches = []; cables = [] }
 
 host-free : (done todo : List (List ℕ)) (name : List ℕ) → Apart (done ++ name ∷ todo) → length done < 128 → host_refusal (hosts_alone done) name ≡ None
 host-free done todo name apart few =
-    let t : taken (hosts_alone done) name ≡ false = ap (list_any (bytes_eq name)) (append-none done) ∙ fresh name done (apart-before done todo name apart) in
+    let t : taken (hosts_alone done) name ≡ false = ap (list_any (bytes_eq name)) (append-nil done) ∙ fresh name done (apart-before done todo name apart) in
     let f : nat_le 128 (length done) ≡ false = grind (arith, nat_tests) in
     λ i. if t i then Some NameTaken else if f i then Some Full else None
 
@@ -45,14 +42,14 @@ hosts-back : (size past k : ℕ) (done todo : List (List ℕ)) (rest : List ℕ)
     ≡ fabric_from size past (hosts_alone (done ++ todo)) (lines_left (record { number = k + length todo; text = rest }))
 hosts-back size past k done [] rest apart good few =
     let plus : k ≡ k + 0 = omega arith in
-    λ i. fabric_from size past (hosts_alone (sym (append-none done) i)) (lines_left (record { number = plus i; text = rest }))
+    λ i. fabric_from size past (hosts_alone (sym (append-nil done) i)) (lines_left (record { number = plus i; text = rest }))
 hosts-back size past k done (name ∷ todo) rest apart good few =
     let more = flat_map (λ name. line_text (host_words name)) todo in
     let plus : (k + 1) + length todo ≡ k + length (name ∷ todo) = omega arith in
     let first : length done < 128 = omega arith in
     let shorter : length (done ++ name ∷ []) + length todo ≤ 128 = omega (arith, length-append done (name ∷ [])) in
     ap (λ t. fabric_from size past (hosts_alone done) (lines_left (record { number = k; text = t }))) (append_assoc (line_text (host_words name)) more rest)
-    ∙ printed-declares size past k (hosts_alone done) (hosts_alone (done ++ name ∷ [])) (codes "host") (name ∷ []) (more ++ rest) (refl, (name-plain name good.0, tt)) refl
+    ∙ printed-declares size past k (hosts_alone done) (hosts_alone (done ++ name ∷ [])) (codes "host") (name ∷ []) (more ++ rest) (refl, (name-plain name good.0, tt)) refl refl
     (host-declared done name good.0 (host-free done todo name apart first))
     ∙ hosts-back size past (k + 1) (done ++ name ∷ []) todo rest (subst Apart (sym (append_assoc done (name ∷ []) todo)) apart) good.1 shorter
     ∙ (λ i. fabric_from size past (hosts_alone (append_assoc done (name ∷ []) todo i)) (lines_left (record { number = plus i; text = rest })))
@@ -85,7 +82,7 @@ switches-back : (size past k : ℕ) (hosts : List (List ℕ)) (done todo : List 
     ≡ fabric_from size past (uncabled hosts (done ++ todo)) (lines_left (record { number = k + length todo; text = rest }))
 switches-back size past k hosts done [] rest apart good counts few =
     let plus : k ≡ k + 0 = omega arith in
-    λ i. fabric_from size past (uncabled hosts (sym (append-none done) i)) (lines_left (record { number = plus i; text = rest }))
+    λ i. fabric_from size past (uncabled hosts (sym (append-nil done) i)) (lines_left (record { number = plus i; text = rest }))
 switches-back size past k hosts done (s ∷ todo) rest apart good counts few =
     let more = flat_map (λ s. line_text (switch_words s)) todo in
     let plus : (k + 1) + length todo ≡ k + length (s ∷ todo) = omega arith in
@@ -93,7 +90,7 @@ switches-back size past k hosts done (s ∷ todo) rest apart good counts few =
     let shorter : length (done ++ s ∷ []) + length todo ≤ 64 = omega (arith, length-append done (s ∷ [])) in
     let fine = small-fine s.ports (count-small s.ports counts.0) in
     ap (λ t. fabric_from size past (uncabled hosts done) (lines_left (record { number = k; text = t }))) (append_assoc (line_text (switch_words s)) more rest)
-    ∙ printed-declares size past k (uncabled hosts done) (uncabled hosts (done ++ s ∷ [])) (codes "switch") (s.name ∷ decimal s.ports ∷ []) (more ++ rest) (refl, (name-plain s.name good.0, (fine.1, tt))) refl
+    ∙ printed-declares size past k (uncabled hosts done) (uncabled hosts (done ++ s ∷ [])) (codes "switch") (s.name ∷ decimal s.ports ∷ []) (more ++ rest) (refl, (name-plain s.name good.0, (fine.1, tt))) refl refl
     (switch-declared hosts done s good.0 fine (switch-free hosts done todo s apart counts.0 first))
     ∙ switches-back size past (k + 1) hosts (done ++ s ∷ []) todo rest (subst (λ l. Apart (hosts ++ named l)) (sym (append_assoc done (s ∷ []) todo)) apart) good.1 counts.1 shorter
     ∙ (λ i. fabric_from size past (uncabled hosts (append_assoc done (s ∷ []) todo i)) (lines_left (record { number = plus i; text = rest })))
@@ -180,7 +177,7 @@ cables-back : (size past k : ℕ) (n : Network) (done todo : List Cable) (rest :
     ≡ fabric_from size past (cabled n (done ++ todo)) (lines_left (record { number = k + length todo; text = rest }))
 cables-back size past k n done [] rest f good ports apart =
     let plus : k ≡ k + 0 = omega arith in
-    λ i. fabric_from size past (cabled n (sym (append-none done) i)) (lines_left (record { number = plus i; text = rest }))
+    λ i. fabric_from size past (cabled n (sym (append-nil done) i)) (lines_left (record { number = plus i; text = rest }))
 cables-back size past k n done (c ∷ todo) rest f good ports apart =
     let more = flat_map (λ c. line_text (cable_words n c)) todo in
     let plus : (k + 1) + length todo ≡ k + length (c ∷ todo) = omega arith in
@@ -188,7 +185,7 @@ cables-back size past k n done (c ∷ todo) rest f good ports apart =
     let b = is-end n c.b f good ports.1.0 in
     ap (λ t. fabric_from size past (cabled n done) (lines_left (record { number = k; text = t }))) (append_assoc (line_text (cable_words n c)) more rest)
     ∙ printed-declares size past k (cabled n done) (cabled n (done ++ c ∷ [])) (codes "cable") (name_of n c.a.v ∷ decimal c.a.p ∷ name_of n c.b.v ∷ decimal c.b.p ∷ []) (more ++ rest)
-    (refl, (name-plain (name_of n c.a.v) a.form, (a.fine.1, (name-plain (name_of n c.b.v) b.form, (b.fine.1, tt))))) refl
+    (refl, (name-plain (name_of n c.a.v) a.form, (a.fine.1, (name-plain (name_of n c.b.v) b.form, (b.fine.1, tt))))) refl refl
     (cable-declared n done c a b (cable-free n done todo c a b apart))
     ∙ cables-back size past (k + 1) n (done ++ c ∷ []) todo rest f good ports.1.1 (subst (λ l. Apart (ends_of l)) (sym (append_assoc done (c ∷ []) todo)) apart)
     ∙ (λ i. fabric_from size past (cabled n (append_assoc done (c ∷ []) todo i)) (lines_left (record { number = plus i; text = rest })))
@@ -207,7 +204,7 @@ fabric-back size past n rest f good =
     ∙ hosts-back size past 1 [] n.hosts (switches_text n ++ (cables_text n ++ tail)) (apart-front n.hosts (named n.switches) f.names_apart) good_hosts (omega (arith, f.few_hosts))
     ∙ switches-back size past (1 + length n.hosts) n.hosts [] n.switches (cables_text n ++ tail) f.names_apart good_switches f.port_counts (omega (arith, f.few_switches))
     ∙ cables-back size past (1 + length n.hosts + length n.switches) n [] n.cables tail f good f.cabled_ports f.ports_once
-    ∙ printed-script size past (1 + length n.hosts + length n.switches + length n.cables) n (codes "script") [] rest (refl, tt) refl
+    ∙ printed-script size past (1 + length n.hosts + length n.switches + length n.cables) n (codes "script") [] rest (refl, tt) refl refl
     ∙ (λ i. Ok (record { fabric = n; next = size - length rest; line = plus i }))
 
 pub fabric-read-back : (n : Network) → IsFabric n → AreNamed n → IsReadBack n (fabric_text n)

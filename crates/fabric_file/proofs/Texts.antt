@@ -1,127 +1,13 @@
--- Lines of printed words, read again.
-use Rattle.std.proofs.Common.{◌≡◌, ℕ, ◌+◌, ◌-◌, List, [], ◌∷◌, ◌++◌, Bool, true, false, not, cond, ◌&&◌, length, nat_eq, nat_lt, Result, Ok, refl, ap, sym, ◌∙◌, append_assoc, true≢false, arith, if◌then◌else◌}
-use Rattle.std.specs.List.{AllByRecursion, list_all, onto_first}
-use Rattle.std.proofs.lemmas.Bool.Decides.{nat_tests}
+-- Lines of printed words, read again as the lines of a fabric.
+use Rattle.std.proofs.Common.{◌≡◌, ℕ, ◌+◌, ◌-◌, List, [], ◌∷◌, ◌++◌, true, false, length, Result, Ok, ap, ◌∙◌, if◌then◌else◌}
 use Rattle.net_defs.specs.Network.{Network}
-use Rattle.net_defs.proofs.Ends.{both}
-use Rattle.fab_text.specs.Line.{TextLine, lines_from, lines_left, saying, says_nothing, is_line_end, is_return, is_blank, begins_with_end, onto_first_line, words_of}
+use Rattle.fab_text.specs.Line.{TextLine, lines_left, says_nothing}
 use Rattle.fab_text.specs.Fault.{FirstFault, at_line, and_then}
+use Rattle.fab_text.specs.Written.{line_text}
 use Rattle.fabric_file.specs.declared.reading.FabricText.{FabricText}
 use Rattle.fabric_file.specs.Declaring.{declared, is_script}
 use Rattle.fabric_file.specs.Reading.{fabric_from}
-use Rattle.fab_text.specs.Written.{spaced, line_text}
-
--- a byte that separates nothing: it is above `#`
-abbrev pub is_plain_byte : ℕ → Bool
-is_plain_byte b = nat_lt 35 b
-
--- a word of such bytes
-abbrev pub is_plain : List ℕ → Bool
-is_plain [] = false
-is_plain (b ∷ bs) = list_all is_plain_byte (b ∷ bs)
-
-abbrev pub ArePlain : List (List ℕ) → Type 0
-ArePlain ws = AllByRecursion (λ w. is_plain w ≡ true) ws
-
--- a byte that ends no line
-abbrev is_inner : ℕ → Bool
-is_inner b = nat_lt 31 b
-
-plain-blank : (b : ℕ) → is_plain_byte b ≡ true → is_blank b ≡ false
-plain-blank b e = grind (arith, nat_tests)
-
-plain-comment : (b : ℕ) → is_plain_byte b ≡ true → nat_eq b 35 ≡ false
-plain-comment b e = grind (arith, nat_tests)
-
-plain-inner : (b : ℕ) → is_plain_byte b ≡ true → is_inner b ≡ true
-plain-inner b e = grind (arith, nat_tests)
-
-inner-end : (b : ℕ) → is_inner b ≡ true → is_line_end b ≡ false
-inner-end b e = grind (arith, nat_tests)
-
-inner-return : (b : ℕ) → is_inner b ≡ true → is_return b ≡ false
-inner-return b e = grind (arith, nat_tests)
-
--- a word that ends its line
-word-alone : (b : ℕ) (bs : List ℕ) → list_all is_plain_byte (b ∷ bs) ≡ true → words_of (b ∷ bs) ≡ (b ∷ bs) ∷ []
-word-alone b [] e = let p = plain-blank b (both _ _ e).0 in λ i. if p i then [] else (b ∷ []) ∷ []
-word-alone b (c ∷ cs) e =
-    let two = both (is_plain_byte b) (list_all is_plain_byte (c ∷ cs)) e in
-    let p = plain-blank b two.0 in
-    let q = plain-blank c (both (is_plain_byte c) (list_all is_plain_byte cs) two.1).0 in
-    (λ i. if p i then words_of (c ∷ cs) else if q i then (b ∷ []) ∷ words_of (c ∷ cs) else onto_first b (words_of (c ∷ cs)))
-    ∙ ap (onto_first b) (word-alone c cs two.1)
-
--- a word before a space
-word-first : (b : ℕ) (bs line : List ℕ) → list_all is_plain_byte (b ∷ bs) ≡ true → words_of ((b ∷ bs) ++ 32 ∷ line) ≡ (b ∷ bs) ∷ words_of line
-word-first b [] line e = let p = plain-blank b (both _ _ e).0 in λ i. if p i then words_of line else (b ∷ []) ∷ words_of line
-word-first b (c ∷ cs) line e =
-    let two = both (is_plain_byte b) (list_all is_plain_byte (c ∷ cs)) e in
-    let p = plain-blank b two.0 in
-    let q = plain-blank c (both (is_plain_byte c) (list_all is_plain_byte cs) two.1).0 in
-    let more = (c ∷ cs) ++ 32 ∷ line in
-    (λ i. if p i then words_of more else if q i then (b ∷ []) ∷ words_of more else onto_first b (words_of more))
-    ∙ ap (onto_first b) (word-first c cs line two.1)
-
--- words with a space between them are read again
-pub words-spaced : (ws : List (List ℕ)) → ArePlain ws → words_of (spaced ws) ≡ ws
-words-spaced [] all = refl
-words-spaced ([] ∷ []) all = absurd (true≢false (sym all.0))
-words-spaced ((b ∷ bs) ∷ []) all = word-alone b bs all.0
-words-spaced ([] ∷ v ∷ ws) all = absurd (true≢false (sym all.0))
-words-spaced ((b ∷ bs) ∷ v ∷ ws) all = word-first b bs (spaced (v ∷ ws)) all.0 ∙ ap (λ l. (b ∷ bs) ∷ l) (words-spaced (v ∷ ws) all.1)
-
--- a word before bytes that end no line
-inner-more : (w more : List ℕ) → list_all is_plain_byte w ≡ true → list_all is_inner more ≡ true → list_all is_inner (w ++ more) ≡ true
-inner-more [] more e f = f
-inner-more (b ∷ bs) more e f =
-    let two = both (is_plain_byte b) (list_all is_plain_byte bs) e in
-    λ i. plain-inner b two.0 i && inner-more bs more two.1 f i
-
-inner-alone : (w : List ℕ) → list_all is_plain_byte w ≡ true → list_all is_inner w ≡ true
-inner-alone [] e = refl
-inner-alone (b ∷ bs) e =
-    let two = both (is_plain_byte b) (list_all is_plain_byte bs) e in
-    λ i. plain-inner b two.0 i && inner-alone bs two.1 i
-
-plain-bytes : (w : List ℕ) → is_plain w ≡ true → list_all is_plain_byte w ≡ true
-plain-bytes [] e = refl
-plain-bytes (b ∷ bs) e = e
-
--- words with a space between them end no line
-spaced-inner : (ws : List (List ℕ)) → ArePlain ws → list_all is_inner (spaced ws) ≡ true
-spaced-inner [] all = refl
-spaced-inner (w ∷ []) all = inner-alone w (plain-bytes w all.0)
-spaced-inner (w ∷ v ∷ ws) all = inner-more w (32 ∷ spaced (v ∷ ws)) (plain-bytes w all.0) (spaced-inner (v ∷ ws) all.1)
-
--- a line
-abbrev line : ℕ → List ℕ → List ℕ → TextLine
-line number bytes after = record { number = number; bytes = bytes; after = after }
-
--- bytes before LF are a line
-line-first : (k : ℕ) (bytes rest : List ℕ) → list_all is_inner bytes ≡ true → lines_from k (bytes ++ 10 ∷ rest) ≡ line k bytes rest ∷ lines_from (k + 1) rest
-line-first k [] rest e = refl
-line-first k (b ∷ bs) rest e =
-    let two = both (is_inner b) (list_all is_inner bs) e in
-    let p = inner-end b two.0 in
-    let q = inner-return b two.0 in
-    let more = bs ++ 10 ∷ rest in
-    (λ i. if p i then line k [] more ∷ lines_from (k + 1) more else if q i && begins_with_end more then lines_from k more else onto_first_line k b (lines_from k more))
-    ∙ ap (onto_first_line k b) (line-first k bs rest two.1)
-
--- a line of plain words says something
-word-says : (w : List ℕ) (ws : List (List ℕ)) → is_plain w ≡ true → says_nothing (w ∷ ws) ≡ false
-word-says [] ws e = absurd (true≢false (sym e))
-word-says (b ∷ bs) ws e = plain-comment b (both (is_plain_byte b) (list_all is_plain_byte bs) e).0
-
--- a printed line is the first line of its text
-pub left-printed : (k : ℕ) (w : List ℕ) (ws : List (List ℕ)) (rest : List ℕ) → ArePlain (w ∷ ws)
-    → lines_left (record { number = k; text = line_text (w ∷ ws) ++ rest }) ≡ line k (spaced (w ∷ ws)) rest ∷ lines_left (record { number = k + 1; text = rest })
-left-printed k w ws rest all =
-    let says : says_nothing (words_of (spaced (w ∷ ws))) ≡ false = ap says_nothing (words-spaced (w ∷ ws) all) ∙ word-says w ws all.0 in
-    ap (λ t. saying (lines_from k t)) (append_assoc (spaced (w ∷ ws)) (10 ∷ []) rest)
-    ∙ ap saying (line-first k (spaced (w ∷ ws)) rest (spaced-inner (w ∷ ws) all))
-    ∙ (λ i. cond (not (says i)) (line k (spaced (w ∷ ws)) rest ∷ saying (lines_from (k + 1) rest)) (saying (lines_from (k + 1) rest)))
+use Rattle.fabric_file.proofs.PlainLines.{ArePlain, words-spaced, left-printed}
 
 -- what the lines from a line of these words on say
 abbrev from_words : ℕ → ℕ → Network → ℕ → List ℕ → List TextLine → List (List ℕ) → Result FabricText FirstFault
@@ -130,19 +16,19 @@ from_words size past n k after ls ws =
     else and_then (at_line k (declared n ws)) (λ m. fabric_from size past m ls)
 
 -- a printed line is read as what its words declare
-pub printed-declares : (size past k : ℕ) (n m : Network) (w : List ℕ) (ws : List (List ℕ)) (rest : List ℕ) → ArePlain (w ∷ ws) → is_script (w ∷ ws) ≡ false → declared n (w ∷ ws) ≡ Ok m
+pub printed-declares : (size past k : ℕ) (n m : Network) (w : List ℕ) (ws : List (List ℕ)) (rest : List ℕ) → ArePlain (w ∷ ws) → says_nothing (w ∷ ws) ≡ false → is_script (w ∷ ws) ≡ false → declared n (w ∷ ws) ≡ Ok m
     → fabric_from size past n (lines_left (record { number = k; text = line_text (w ∷ ws) ++ rest })) ≡ fabric_from size past m (lines_left (record { number = k + 1; text = rest }))
-printed-declares size past k n m w ws rest all s d =
+printed-declares size past k n m w ws rest all says s d =
     let ls = lines_left (record { number = k + 1; text = rest }) in
-    ap (fabric_from size past n) (left-printed k w ws rest all)
+    ap (fabric_from size past n) (left-printed k w ws rest all says)
     ∙ ap (from_words size past n k rest ls) (words-spaced (w ∷ ws) all)
     ∙ (λ i. if s i then Ok (record { fabric = n; next = size - length rest; line = k }) else and_then (at_line k (d i)) (λ m. fabric_from size past m ls))
 
 -- the line `script`
-pub printed-script : (size past k : ℕ) (n : Network) (w : List ℕ) (ws : List (List ℕ)) (rest : List ℕ) → ArePlain (w ∷ ws) → is_script (w ∷ ws) ≡ true
+pub printed-script : (size past k : ℕ) (n : Network) (w : List ℕ) (ws : List (List ℕ)) (rest : List ℕ) → ArePlain (w ∷ ws) → says_nothing (w ∷ ws) ≡ false → is_script (w ∷ ws) ≡ true
     → fabric_from size past n (lines_left (record { number = k; text = line_text (w ∷ ws) ++ rest })) ≡ Ok (record { fabric = n; next = size - length rest; line = k })
-printed-script size past k n w ws rest all s =
+printed-script size past k n w ws rest all says s =
     let ls = lines_left (record { number = k + 1; text = rest }) in
-    ap (fabric_from size past n) (left-printed k w ws rest all)
+    ap (fabric_from size past n) (left-printed k w ws rest all says)
     ∙ ap (from_words size past n k rest ls) (words-spaced (w ∷ ws) all)
     ∙ (λ i. if s i then Ok (record { fabric = n; next = size - length rest; line = k }) else and_then (at_line k (declared n (w ∷ ws))) (λ m. fabric_from size past m ls))

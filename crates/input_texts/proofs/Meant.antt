@@ -11,9 +11,9 @@ use Rattle.fab_text.specs.Fault.{and_then}
 use Rattle.run_defs.specs.declared.command.Command.TheVariants.{Map, Routes, Install, Begin, Poll, Provide, Send, Plan, Settle}
 use Rattle.run_defs.specs.declared.command.PlanKind.TheVariants.{Lose, Hold, Repeat}
 use Rattle.run_defs.specs.Script.{Form, OfName, OfNumber, Value, Name, Number, value_of, values_of, of_port, of_count, of_tries, map_meant, open_meant, at_port_meant, provide_meant, send_meant, address_of, at_host}
-use Rattle.fabric_file.proofs.Names.{name-plain}
+use Rattle.fabric_file.proofs.PlainWords.{name-plain, number-plain}
 use Rattle.fabric_gen.specs.Text.{host_name, poll_words}
-use Rattle.input_texts.proofs.Numbers.{number-plain, number-value}
+use Rattle.input_texts.proofs.Numbers.{number-value}
 use Rattle.input_texts.proofs.Saying.{IsSaid}
 
 -- A host of the fabric has a name of the text's form, which names it.
@@ -55,7 +55,8 @@ pub map-said : (f : Network) (h depth : ℕ) → IsThere f h → 1 ≤ depth →
 map-said f h depth there low high =
     let values = values-read (a_host h ∷ a_number 1 32 depth ∷ the_number of_tries (codes "1") 1 ∷ []) (name-value (host_name h) there.named, (number-value 1 32 depth low high (omega arith), (refl, tt))) in
     record {
-      plain = (refl, (name-plain (host_name h) there.named, (number-plain depth (omega arith), (refl, tt))));
+      plain = (refl, (name-plain (host_name h) there.named, (number-plain depth, (refl, tt))));
+      speaks = refl;
       goes_on = refl;
       means = (λ i. and_then (values i) (map_meant f)) ∙ (λ i. and_then (address_of (there.found i)) (λ a. Ok (Map a depth 1)));
     }
@@ -66,6 +67,7 @@ open-sender-said f h there =
     let values = values-read (a_host h ∷ the_number of_port (codes "0") 0 ∷ the_number of_count (codes "4") 4 ∷ the_number of_count (codes "0") 0 ∷ []) (name-value (host_name h) there.named, (refl, (refl, (refl, tt)))) in
     record {
       plain = (refl, (name-plain (host_name h) there.named, (refl, (refl, (refl, tt)))));
+      speaks = refl;
       goes_on = refl;
       means = (λ i. and_then (values i) (open_meant f)) ∙ (λ i. and_then (address_of (there.found i)) (λ a. Ok (Begin a 0 4 0)));
     }
@@ -76,6 +78,7 @@ open-receiver-said f h there =
     let values = values-read (a_host h ∷ the_number of_port (codes "1") 1 ∷ the_number of_count (codes "0") 0 ∷ the_number of_count (codes "4") 4 ∷ []) (name-value (host_name h) there.named, (refl, (refl, (refl, tt)))) in
     record {
       plain = (refl, (name-plain (host_name h) there.named, (refl, (refl, (refl, tt)))));
+      speaks = refl;
       goes_on = refl;
       means = (λ i. and_then (values i) (open_meant f)) ∙ (λ i. and_then (address_of (there.found i)) (λ a. Ok (Begin a 1 0 4)));
     }
@@ -86,6 +89,7 @@ poll-said f h there =
     let values = values-read (a_host h ∷ the_number of_port (codes "1") 1 ∷ []) (name-value (host_name h) there.named, (refl, tt)) in
     record {
       plain = (refl, (name-plain (host_name h) there.named, (refl, tt)));
+      speaks = refl;
       goes_on = refl;
       means = (λ i. and_then (values i) (at_port_meant Poll f)) ∙ (λ i. and_then (address_of (there.found i)) (λ a. Ok (Poll a 1)));
     }
@@ -97,7 +101,8 @@ provide-said f h size prio there small low =
     let values = values-read (a_host h ∷ the_number of_port (codes "1") 1 ∷ a_number 0 31 size ∷ a_number 0 1 prio ∷ [])
     (name-value (host_name h) there.named, (refl, (number-value 0 31 size (omega arith) small (omega arith), (number-value 0 1 prio (omega arith) low (omega arith), tt)))) in
     record {
-      plain = (refl, (name-plain (host_name h) there.named, (refl, (number-plain size (omega arith), (number-plain prio (omega arith), tt)))));
+      plain = (refl, (name-plain (host_name h) there.named, (refl, (number-plain size, (number-plain prio, tt)))));
+      speaks = refl;
       goes_on = refl;
       means = (λ i. and_then (values i) (provide_meant f)) ∙ (λ i. and_then (address_of (there.found i)) (λ a. Ok (Provide a 1 size prio)));
     }
@@ -133,12 +138,13 @@ send-said f h g prio len seed there other low short small =
               name-plain (host_name g) other.named,
               (
                 refl,
-                (number-plain prio (omega arith), (number-plain len (omega arith), (number-plain seed (omega arith), tt))),
+                (number-plain prio, (number-plain len, (number-plain seed, tt))),
               ),
             ),
           ),
         ),
       );
+      speaks = refl;
       goes_on = refl;
       means =
           (λ i. and_then (values i) (send_meant f))
@@ -148,19 +154,19 @@ send-said f h g prio len seed there other low short small =
 
 -- lines that are the same in every text
 pub routes-said : (f : Network) → IsSaid f (codes "routes" ∷ []) Routes
-routes-said f = record { plain = (refl, tt); goes_on = refl; means = refl }
+routes-said f = record { plain = (refl, tt); speaks = refl; goes_on = refl; means = refl }
 
 pub install-said : (f : Network) → IsSaid f (codes "install" ∷ codes "1" ∷ []) (Install 1)
-install-said f = record { plain = (refl, (refl, tt)); goes_on = refl; means = refl }
+install-said f = record { plain = (refl, (refl, tt)); speaks = refl; goes_on = refl; means = refl }
 
 pub lose-said : (f : Network) → IsSaid f (codes "plan" ∷ codes "lose" ∷ codes "1" ∷ []) (Plan 1 Lose)
-lose-said f = record { plain = (refl, (refl, (refl, tt))); goes_on = refl; means = refl }
+lose-said f = record { plain = (refl, (refl, (refl, tt))); speaks = refl; goes_on = refl; means = refl }
 
 pub hold-said : (f : Network) → IsSaid f (codes "plan" ∷ codes "hold" ∷ codes "2" ∷ []) (Plan 2 Hold)
-hold-said f = record { plain = (refl, (refl, (refl, tt))); goes_on = refl; means = refl }
+hold-said f = record { plain = (refl, (refl, (refl, tt))); speaks = refl; goes_on = refl; means = refl }
 
 pub repeat-said : (f : Network) → IsSaid f (codes "plan" ∷ codes "repeat" ∷ codes "3" ∷ []) (Plan 3 Repeat)
-repeat-said f = record { plain = (refl, (refl, (refl, tt))); goes_on = refl; means = refl }
+repeat-said f = record { plain = (refl, (refl, (refl, tt))); speaks = refl; goes_on = refl; means = refl }
 
 pub settle-said : (f : Network) → IsSaid f (codes "settle" ∷ []) Settle
-settle-said f = record { plain = (refl, tt); goes_on = refl; means = refl }
+settle-said f = record { plain = (refl, tt); speaks = refl; goes_on = refl; means = refl }

@@ -3,18 +3,19 @@ use Rattle.std.proofs.Common.{◌≡◌, ◌<◌, ◌≤◌, ℕ, zero, suc, ◌
 use Rattle.std.specs.Prelude.{codes, flat_map}
 use Rattle.std.specs.List.{range_with_len}
 use Rattle.net_defs.specs.Network.{Network}
-use Rattle.fab_text.specs.Line.{TextLine, lines_left}
+use Rattle.fab_text.specs.Line.{TextLine, lines_left, says_nothing}
 use Rattle.fab_text.specs.Fault.{FirstFault, and_then, at_line}
 use Rattle.fab_text.specs.Written.{line_text}
 use Rattle.run_defs.specs.declared.command.Command.{Command}
 use Rattle.run_defs.specs.declared.command.Command.TheVariants.{Finish}
 use Rattle.run_defs.specs.Script.{command_of, ended, is_end, script_from}
-use Rattle.fabric_file.proofs.Texts.{ArePlain, left-printed, words-spaced}
+use Rattle.fabric_file.proofs.PlainLines.{ArePlain, left-printed, words-spaced}
 use Rattle.fabric_gen.specs.Text.{lines_text}
 
 -- A line of these words says this command.
 pub record IsSaid (f : Network) (ws : List (List ℕ)) (c : Command) : Type 0 where
   pub plain : ArePlain ws
+  pub speaks : says_nothing ws ≡ false
   pub goes_on : is_end ws ≡ false
   pub means : command_of f ws ≡ Ok c
 
@@ -34,7 +35,7 @@ read-line : (past k : ℕ) (f : Network) (w : List ℕ) (ws : List (List ℕ)) (
     ≡ and_then (script_from past f (lines_left (record { number = k + 1; text = rest }))) (λ cs. Ok (c ∷ cs))
 read-line past k f w ws rest c s =
     let ls = lines_left (record { number = k + 1; text = rest }) in
-    ap (script_from past f) (left-printed k w ws rest s.plain)
+    ap (script_from past f) (left-printed k w ws rest s.plain s.speaks)
     ∙ ap (from_words past f k ls) (words-spaced (w ∷ ws) s.plain)
     ∙ (λ i. if s.goes_on i then ended ls else and_then (at_line k (s.means i)) (λ c. and_then (script_from past f ls) (λ cs. Ok (c ∷ cs))))
 

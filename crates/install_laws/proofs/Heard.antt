@@ -20,7 +20,8 @@ use Rattle.world_defs.specs.Install.{has_part_come, is_acknowledged}
 use Rattle.ask_laws.proofs.Drained.{told}
 use Rattle.ask_laws.proofs.Parcels.{IsParcel, hears_in}
 use Rattle.ask_laws.proofs.Tries.{equal, below}
-use Rattle.install_laws.proofs.Between.{IsBetween, SamePorts}
+use Rattle.ask_laws.specs.Kept.{SamePorts}
+use Rattle.install_laws.proofs.Between.{IsBetween}
 use Rattle.install_laws.proofs.Tables.{applied-due}
 
 -- what an installation reads of effects is what hosts heard

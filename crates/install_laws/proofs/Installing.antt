@@ -93,7 +93,7 @@ missed-harmed a hosts tries w can left = (installation a hosts tries w can).host
 
 pub counted-tables : CountedHostsHaveTables
 counted-tables a hosts tries w can adopter =
-    (installation a hosts tries w can).hosts_are.tables (ap (λ (t : TableState). is_some t.active) ((kept-start w).table a.mapper) ∙ adopter)
+    (installation a hosts tries w can).hosts_are.tables (ap (λ (t : TableState). is_some t.active) (((kept-start w).nodes a.mapper).table) ∙ adopter)
 
 pub misses-cost : EachMissCostsFaults
 misses-cost a hosts tries w can left calm =

@@ -1,6 +1,6 @@
 -- Where no fault is planned for an injection of an installation, none harms, and no cable goes.
-use Rattle.std.proofs.Common.{◌≡◌, ◌≤◌, ◌+◌, ℕ, Bool, true, false, nat_eq, List, [], ◌∷◌, Some, None, cond, refl, sym, ap, ◌∙◌, arith}
-use Rattle.std.specs.Map.{lookup, remove_entry}
+use Rattle.std.proofs.Common.{◌≡◌, ◌≤◌, ◌+◌, ℕ, false, nat_eq, Some, None, refl, sym, ap, ◌∙◌, arith}
+use Rattle.std.specs.Map.{lookup}
 use Rattle.world_defs.specs.declared.fault.Fault.{Fault}
 use Rattle.world_defs.specs.Node.{Outgoing}
 use Rattle.world_defs.specs.World.{WorldState}
@@ -12,6 +12,7 @@ use Rattle.world_laws.proofs.Unplanned.{IsUnplanned, Unplanned, is_change, along
 use Rattle.world_defs.specs.Logs.{install}
 use Rattle.world_defs.proofs.LogRows.{install-row}
 use Rattle.world_defs.proofs.Strikes.{Strike, strike_view}
+use Rattle.ask_laws.proofs.Struck.{without-none}
 use Rattle.install_laws.proofs.Worlds.{installed-of}
 use Rattle.install_laws.specs.Counts.{UnplannedCountsAll}
 use Rattle.install_laws.proofs.Counting.{unharmed-all}
@@ -36,15 +37,6 @@ unharmed-both u v w a b =
           b.harmed (λ number low high. a.unplanned number (none number (omega (arith, i, low)) high))
           ∙ a.harmed (λ number low high. none number low (omega (arith, j, high)));
     }
-
-without-none : (test other : ℕ → Bool) (fs : List (ℕ × Fault)) → lookup other fs ≡ None → lookup other (remove_entry test fs) ≡ None
-without-none test other [] e = refl
-without-none test other (f ∷ fs) e = by (test f.0) (other f.0) refl e (without-none test other fs)
-  where
-    by : (t o : Bool) → other f.0 ≡ o → cond o (Some f.1) (lookup other fs) ≡ None → (lookup other fs ≡ None → lookup other (remove_entry test fs) ≡ None) → lookup other (cond t fs (f ∷ remove_entry test fs)) ≡ None
-    by t true p d rest = cc
-    by true false p d rest = d
-    by false false p d rest = rw p (rest d)
 
 -- an injection
 strike-so : (w : WorldState) {u v : WorldState} {c : ℕ} → u.injected ≡ w.injected + 1 → u.plan ≡ w.plan → u.harmed ≡ w.harmed → Strike u c v → Unharmed w v

@@ -1,28 +1,15 @@
 -- What an installation leaves as it was.
-use Rattle.std.specs.Prelude.{◌≡◌, ℕ, ◌≤◌, true, List, nat_eq, None}
-use Rattle.std.specs.Map.{lookup}
-use Rattle.cable_history.specs.Later.{OnlyPulled}
+use Rattle.std.specs.Prelude.{◌≡◌, ℕ, true, List}
 use Rattle.link_defs.specs.Links.{is_idle}
 use Rattle.world_defs.specs.Table.{Adoption}
-use Rattle.world_defs.specs.World.{WorldState, host_count, node_at}
-use Rattle.world_defs.specs.EightBits.{HasByteFaults}
+use Rattle.world_defs.specs.World.{WorldState}
 use Rattle.world_defs.specs.Logs.{install}
+use Rattle.ask_laws.specs.Kept.{IsKept, SamePorts}
 use Rattle.install_laws.specs.Premises.{CanInstall}
 
--- Cables are pulled at most; each host's connections and ports, the clients and the adopted set are as before; no fault
--- is planned anew; and no count falls. Tables alone change besides.
-pub record IsInstallKept (w v : WorldState) : Type 0 where
-  pub pulled : OnlyPulled w.links.cables v.links.cables
-  pub hosts : host_count v ≡ host_count w
-  pub lanes : (h : ℕ) → (node_at v h).lanes ≡ (node_at w h).lanes
-  pub ports : (h : ℕ) → (node_at v h).ports ≡ (node_at w h).ports
-  pub clients : v.clients ≡ w.clients
-  pub adopted : v.adopted ≡ w.adopted
-  pub unplanned : (number : ℕ) → lookup (nat_eq number) w.plan ≡ None → lookup (nat_eq number) v.plan ≡ None
-  pub byte_flips : HasByteFaults w → HasByteFaults v
-  pub injected : w.injected ≤ v.injected
-  pub struck : w.struck ≤ v.struck
-  pub harmed : w.harmed ≤ v.harmed
+-- what an installation leaves of a world, each host's connections and ports among it: tables alone change besides
+abbrev pub IsInstallKept : WorldState → WorldState → Type 0
+IsInstallKept w v = IsKept SamePorts w v
 
 -- an installation keeps them
 abbrev pub InstallingKeeps : Type 0

@@ -1,10 +1,10 @@
 -- A probe that is heard in a drain is heard by a host that is there; and a drain keeps the fabric and the hosts.
 use Rattle.std.proofs.Common.{◌≡◌, ◌<◌, ◌+◌, ℕ, List, [], ◌∷◌, ◌++◌, map, Option, Some, None, refl, sym, ◌∙◌, subst}
 use Rattle.std.specs.Prelude.{IfSome, Result, Ok, Err, IfOk, OnOk, OnErr}
-use Rattle.world_defs.specs.declared.heard.Heard.TheVariants.{Probe, Reply, Loop, Routes, RoutesAck, Message, Fragment, NotNext, NoToken, Ack}
+use Rattle.world_defs.specs.declared.heard.Heard.TheVariants.{Probe}
 use Rattle.world_defs.specs.declared.event.Event.TheVariants.{Advance}
 use Rattle.world_defs.specs.declared.effect.Effect.{Effect}
-use Rattle.world_defs.specs.declared.effect.Effect.TheVariants.{Idle, Injected, Moved, Blocked, Arrived, Dropped, Lost, Reset as WasReset, Flipped, Expired, GaveUp, Repeated, Held, Replayed, Staged, Said}
+use Rattle.world_defs.specs.declared.effect.Effect.TheVariants.{Arrived}
 use Rattle.world_defs.specs.Node.{either}
 use Rattle.world_defs.specs.World.{WorldState, host_count}
 use Rattle.world_defs.specs.Step.{step, steps}
@@ -31,31 +31,8 @@ abbrev IsThere : ℕ → Option ℕ → Type 0
 IsThere n o = IfSome o (λ h. h < n)
 
 one-there : (count : ℕ) (x : Effect) → IsOfHosts count x → IsThere count (probed_host (x ∷ []))
-one-there count Idle is = tt
-one-there count (Injected n) is = tt
-one-there count (Moved c) is = tt
-one-there count (Blocked c) is = tt
-one-there count (Dropped x) is = tt
-one-there count Lost is = tt
-one-there count WasReset is = tt
-one-there count Flipped is = tt
-one-there count Expired is = tt
-one-there count GaveUp is = tt
-one-there count (Repeated s) is = tt
-one-there count (Held s) is = tt
-one-there count (Replayed c) is = tt
-one-there count Staged is = tt
-one-there count (Said s) is = tt
 one-there count (Arrived h Probe) is = is
-one-there count (Arrived h (Reply n from)) is = tt
-one-there count (Arrived h (Loop n)) is = tt
-one-there count (Arrived h Routes) is = tt
-one-there count (Arrived h (RoutesAck e from part)) is = tt
-one-there count (Arrived h Message) is = tt
-one-there count (Arrived h Fragment) is = tt
-one-there count (Arrived h NotNext) is = tt
-one-there count (Arrived h NoToken) is = tt
-one-there count (Arrived h Ack) is = tt
+one-there count _ is = tt
 
 both-there : (n : ℕ) (a b : Option ℕ) → IsThere n a → IsThere n b → IsThere n (either a b)
 both-there n (Some h) b p q = p

@@ -135,11 +135,8 @@ arrived-hop w h (HostDropped drop, n) = refl
 arrived-hop w h (ArrivalNotMine, n) = refl
 
 advanced_by-hop : (w : WorldState) (o : Went (List ℕ) × LinkState) → hop_of (advanced_by w o).0 ≡ hop_in o.0
-advanced_by-hop w (To next, l) = refl
 advanced_by-hop w (AtHost h wire, l) = arrived-hop (with_links w l) h (hear h (host_count w) (node_at w h) wire)
-advanced_by-hop w (Dropped why, l) = refl
-advanced_by-hop w (Waits next, l) = refl
-advanced_by-hop w (Empty, l) = refl
+advanced_by-hop w _ = refl
 
 step-hop : (w : WorldState) (c : ℕ) → hop_of (step w (Advance c)).0 ≡ hop_in (advance w.links c).0
 unfolding advanced

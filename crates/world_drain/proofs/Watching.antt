@@ -35,139 +35,24 @@ or-in-a-row false b c = refl
 
 -- what the first effect adds
 pub probed-push : (x : Effect) (xs : List Effect) → probed_host (x ∷ xs) ≡ either (probed_host (x ∷ [])) (probed_host xs)
-probed-push Idle xs = refl
-probed-push (Injected n) xs = refl
-probed-push (Moved c) xs = refl
-probed-push (Blocked c) xs = refl
-probed-push (Dropped x) xs = refl
-probed-push Lost xs = refl
-probed-push WasReset xs = refl
-probed-push Flipped xs = refl
-probed-push Expired xs = refl
-probed-push GaveUp xs = refl
-probed-push (Repeated s) xs = refl
-probed-push (Held s) xs = refl
-probed-push (Replayed c) xs = refl
-probed-push Staged xs = refl
-probed-push (Said s) xs = refl
 probed-push (Arrived h Probe) xs = refl
-probed-push (Arrived h (Reply n from)) xs = refl
-probed-push (Arrived h (Loop n)) xs = refl
-probed-push (Arrived h Routes) xs = refl
-probed-push (Arrived h (RoutesAck e from part)) xs = refl
-probed-push (Arrived h Message) xs = refl
-probed-push (Arrived h Fragment) xs = refl
-probed-push (Arrived h NotNext) xs = refl
-probed-push (Arrived h NoToken) xs = refl
-probed-push (Arrived h Ack) xs = refl
+probed-push _ xs = refl
 
 replied-push : (mapper number : ℕ) (x : Effect) (xs : List Effect) → replied_host mapper number (x ∷ xs) ≡ either (replied_host mapper number (x ∷ [])) (replied_host mapper number xs)
-replied-push mapper number Idle xs = refl
-replied-push mapper number (Injected n) xs = refl
-replied-push mapper number (Moved c) xs = refl
-replied-push mapper number (Blocked c) xs = refl
-replied-push mapper number (Dropped x) xs = refl
-replied-push mapper number Lost xs = refl
-replied-push mapper number WasReset xs = refl
-replied-push mapper number Flipped xs = refl
-replied-push mapper number Expired xs = refl
-replied-push mapper number GaveUp xs = refl
-replied-push mapper number (Repeated s) xs = refl
-replied-push mapper number (Held s) xs = refl
-replied-push mapper number (Replayed c) xs = refl
-replied-push mapper number Staged xs = refl
-replied-push mapper number (Said s) xs = refl
-replied-push mapper number (Arrived h Probe) xs = refl
 replied-push mapper number (Arrived h (Reply n from)) xs = first_if (nat_eq h mapper && nat_eq n number) from (replied_host mapper number xs)
-replied-push mapper number (Arrived h (Loop n)) xs = refl
-replied-push mapper number (Arrived h Routes) xs = refl
-replied-push mapper number (Arrived h (RoutesAck e from part)) xs = refl
-replied-push mapper number (Arrived h Message) xs = refl
-replied-push mapper number (Arrived h Fragment) xs = refl
-replied-push mapper number (Arrived h NotNext) xs = refl
-replied-push mapper number (Arrived h NoToken) xs = refl
-replied-push mapper number (Arrived h Ack) xs = refl
+replied-push mapper number _ xs = refl
 
 returned-push : (mapper number : ℕ) (x : Effect) (xs : List Effect) → has_returned mapper number (x ∷ xs) ≡ (has_returned mapper number (x ∷ []) || has_returned mapper number xs)
-returned-push mapper number Idle xs = refl
-returned-push mapper number (Injected n) xs = refl
-returned-push mapper number (Moved c) xs = refl
-returned-push mapper number (Blocked c) xs = refl
-returned-push mapper number (Dropped x) xs = refl
-returned-push mapper number Lost xs = refl
-returned-push mapper number WasReset xs = refl
-returned-push mapper number Flipped xs = refl
-returned-push mapper number Expired xs = refl
-returned-push mapper number GaveUp xs = refl
-returned-push mapper number (Repeated s) xs = refl
-returned-push mapper number (Held s) xs = refl
-returned-push mapper number (Replayed c) xs = refl
-returned-push mapper number Staged xs = refl
-returned-push mapper number (Said s) xs = refl
-returned-push mapper number (Arrived h Probe) xs = refl
-returned-push mapper number (Arrived h (Reply n from)) xs = refl
 returned-push mapper number (Arrived h (Loop n)) xs = first_or (nat_eq h mapper && nat_eq n number) (has_returned mapper number xs)
-returned-push mapper number (Arrived h Routes) xs = refl
-returned-push mapper number (Arrived h (RoutesAck e from part)) xs = refl
-returned-push mapper number (Arrived h Message) xs = refl
-returned-push mapper number (Arrived h Fragment) xs = refl
-returned-push mapper number (Arrived h NotNext) xs = refl
-returned-push mapper number (Arrived h NoToken) xs = refl
-returned-push mapper number (Arrived h Ack) xs = refl
+returned-push mapper number _ xs = refl
 
 come-push : (dst : ℕ) (x : Effect) (xs : List Effect) → has_part_come dst (x ∷ xs) ≡ (has_part_come dst (x ∷ []) || has_part_come dst xs)
-come-push dst Idle xs = refl
-come-push dst (Injected n) xs = refl
-come-push dst (Moved c) xs = refl
-come-push dst (Blocked c) xs = refl
-come-push dst (Dropped x) xs = refl
-come-push dst Lost xs = refl
-come-push dst WasReset xs = refl
-come-push dst Flipped xs = refl
-come-push dst Expired xs = refl
-come-push dst GaveUp xs = refl
-come-push dst (Repeated s) xs = refl
-come-push dst (Held s) xs = refl
-come-push dst (Replayed c) xs = refl
-come-push dst Staged xs = refl
-come-push dst (Said s) xs = refl
-come-push dst (Arrived h Probe) xs = refl
-come-push dst (Arrived h (Reply n from)) xs = refl
-come-push dst (Arrived h (Loop n)) xs = refl
 come-push dst (Arrived h Routes) xs = first_or (nat_eq h dst) (has_part_come dst xs)
-come-push dst (Arrived h (RoutesAck e from p)) xs = refl
-come-push dst (Arrived h Message) xs = refl
-come-push dst (Arrived h Fragment) xs = refl
-come-push dst (Arrived h NotNext) xs = refl
-come-push dst (Arrived h NoToken) xs = refl
-come-push dst (Arrived h Ack) xs = refl
+come-push dst _ xs = refl
 
 epoch-push : (mapper dst part : ℕ) (x : Effect) (xs : List Effect) → acked_epoch mapper dst part (x ∷ xs) ≡ either (acked_epoch mapper dst part (x ∷ [])) (acked_epoch mapper dst part xs)
-epoch-push mapper dst part Idle xs = refl
-epoch-push mapper dst part (Injected n) xs = refl
-epoch-push mapper dst part (Moved c) xs = refl
-epoch-push mapper dst part (Blocked c) xs = refl
-epoch-push mapper dst part (Dropped x) xs = refl
-epoch-push mapper dst part Lost xs = refl
-epoch-push mapper dst part WasReset xs = refl
-epoch-push mapper dst part Flipped xs = refl
-epoch-push mapper dst part Expired xs = refl
-epoch-push mapper dst part GaveUp xs = refl
-epoch-push mapper dst part (Repeated s) xs = refl
-epoch-push mapper dst part (Held s) xs = refl
-epoch-push mapper dst part (Replayed c) xs = refl
-epoch-push mapper dst part Staged xs = refl
-epoch-push mapper dst part (Said s) xs = refl
-epoch-push mapper dst part (Arrived h Probe) xs = refl
-epoch-push mapper dst part (Arrived h (Reply n from)) xs = refl
-epoch-push mapper dst part (Arrived h (Loop n)) xs = refl
-epoch-push mapper dst part (Arrived h Routes) xs = refl
 epoch-push mapper dst part (Arrived h (RoutesAck e from p)) xs = first_if (nat_eq h mapper && nat_eq from dst && nat_eq p part) e (acked_epoch mapper dst part xs)
-epoch-push mapper dst part (Arrived h Message) xs = refl
-epoch-push mapper dst part (Arrived h Fragment) xs = refl
-epoch-push mapper dst part (Arrived h NotNext) xs = refl
-epoch-push mapper dst part (Arrived h NoToken) xs = refl
-epoch-push mapper dst part (Arrived h Ack) xs = refl
+epoch-push mapper dst part _ xs = refl
 
 -- it is heard where there is such an epoch
 pub epoch-heard : (mapper dst part : ℕ) (xs : List Effect) → is_some (acked_epoch mapper dst part xs) ≡ is_acknowledged mapper dst part xs

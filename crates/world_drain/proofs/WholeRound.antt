@@ -110,7 +110,7 @@ rounds-few first now rounds resets left struck planned r few count small =
     omega (arith, cost, few, count, small)
 
 -- What a clear and all rounds came to.
-pub record IsSettled (w v : WorldState) (rounds resets : ℕ) : Type 0 where
+pub record IsSettle (w v : WorldState) (rounds resets : ℕ) : Type 0 where
   pub after : v ≡ (log.settle w).world
   pub number : rounds ≡ (log.settle w).value.rounds
   pub counted : resets ≡ capped (log.settle w).value.resets
@@ -119,7 +119,7 @@ rounds-zero : (n : ℕ) → n ≡ 0 + n
 rounds-zero n = omega arith
 
 pub settled-is : (w u v : WorldState) (rounds first rest all : ℕ) → first ≡ (log.clear w).value → u ≡ (log.clear w).world → first ≤ 8192 → AreRounds u v rounds rest → all ≡ capped (first + rest)
-    → IsSettled w v rounds all
+    → IsSettle w v rounds all
 unfolding log.settle
 settled-is w u v rounds first rest all counted cleared few r all_is =
     let left : Log log.Rounds = rounds_from (log.clear w).world in

@@ -2,7 +2,7 @@ use Rattle.std.proofs.Common.{◌≡◌, ◌<◌, ◌≤◌, ◌+◌, ℕ, lengt
 use Rattle.cable_history.specs.History.{fabric_at}
 use Rattle.world_defs.specs.World.{WorldState, last_count}
 use Rattle.world_defs.specs.Settle.{unacknowledged_in}
-use Rattle.world_defs.specs.Settled.{IsSettled as IsEnd}
+use Rattle.world_defs.specs.Settled.{IsSettled}
 use Rattle.world_laws.proofs.Rounds.{settle-bounded}
 use Rattle.lawful_laws.proofs.Settling.{settle-flows}
 use Rattle.message_laws.specs.Got.{IsAllGot}
@@ -16,7 +16,7 @@ use Rattle.fab_world.proofs.Moments.{later-hosts, later-adopted}
 use Rattle.settle_laws.proofs.Flowing.{settle-ends_settled}
 use Rattle.world_drain.proofs.Cables.{way-pulled, done-pulled, settle-plugs_none, same-pulled, pulled-channels, channels-stay}
 use Rattle.world_drain.proofs.Later.{way-later, on-any}
-use Rattle.world_drain.proofs.WholeRound.{IsSettled, settled-is, settled-idle}
+use Rattle.world_drain.proofs.WholeRound.{IsSettle, settled-is, settled-idle}
 use Rattle.world_drain.proofs.rounds.settle.Goals as goal
 
 -- where memory ran out among the rounds
@@ -48,7 +48,7 @@ pub returns-in_err-rest-clause-adopted : goal.returns-in_err-rest-clause-adopted
 returns-in_err-rest-clause-adopted c = later-adopted c.args.w.now c.all_rounds.new.w (cut c)
 
 -- what was done is a settle
-settled : (c : goal.After-saturating_add) → IsSettled c.args.w.now c.all_rounds.new.w c.in_ok-rest.rest.rounds c.saturating_add.result
+settled : (c : goal.After-saturating_add) → IsSettle c.args.w.now c.all_rounds.new.w c.in_ok-rest.rest.rounds c.saturating_add.result
 settled c =
     settled-is c.args.w.now c.clear.new.w c.all_rounds.new.w c.in_ok-rest.rest.rounds c.in_ok-first.first c.in_ok-rest.rest.resets c.saturating_add.result
     c.in_ok-first.ensures.resets c.in_ok-first.ensures.after c.in_ok-first.ensures.few c.in_ok-rest.ensures.ok c.saturating_add.ensures
@@ -86,7 +86,7 @@ returns-clause-lawful c clears =
 pub returns-clause-settled : goal.returns-clause-settled
 returns-clause-settled c left =
     let after = (settled c).after in
-    subst IsEnd (sym after) (settle-ends_settled c.args.w.now (record { reached = c.reached.ensures }) (subst (λ (u : WorldState). u.injected < last_count) after left))
+    subst IsSettled (sym after) (settle-ends_settled c.args.w.now (record { reached = c.reached.ensures }) (subst (λ (u : WorldState). u.injected < last_count) after left))
 
 pub returns-clause-got : goal.returns-clause-got
 returns-clause-got c none =
