@@ -1,7 +1,7 @@
 -- The first route that leads astray, and ranks where none does.
-use Rattle.std.proofs.Common.{◌≡◌, ℕ, suc, ◌+◌, Bool, true, false, not, List, [], ◌∷◌, ◌++◌, length, nat_eq, if◌then◌else◌, Some, None, refl, sym, ap, ◌∙◌, subst, arith, true≢false}
+use Rattle.std.proofs.Common.{◌≡◌, ◌≢◌, ℕ, suc, ◌+◌, Bool, true, false, not, List, [], ◌∷◌, ◌++◌, length, nat_eq, if◌then◌else◌, Some, None, refl, sym, ap, ◌∙◌, subst, arith, true≢false}
 use Rattle.std.specs.Prelude.{◌↔◌}
-use Rattle.std.specs.List.{AllByRecursion}
+use Rattle.std.specs.List.{AllByRecursion, list_all}
 use Rattle.gm_defs.proofs.Choices.{both}
 use Rattle.net_defs.specs.declared.route.Route.{Route}
 use Rattle.map_defs.specs.declared.rank.RankEntry.{RankEntry}
@@ -14,7 +14,7 @@ use Rattle.port_ledgers.proofs.Counting.{equal, same, two}
 use Rattle.answer_defs.specs.declared.why.Why.TheVariants.{Rank as BadRank, Route as BadRoute}
 use Rattle.answer_defs.specs.Right.{AreWhole, LeadsBetween}
 use Rattle.answer_defs.specs.Failing.{not_whole, astray, falling}
-use Rattle.answer_checks.specs.Checks.{FindsFault, leads_between, astray_from}
+use Rattle.answer_checks.specs.Checks.{FindsFault, AreRight, is_between, leads_between, astray_from}
 
 -- ---- one route
 
@@ -22,17 +22,23 @@ not-false : (b : Bool) → not b ≡ true → b ≡ false
 not-false true e = absurd (true≢false (sym e))
 not-false false e = refl
 
-leads-so : (m : NetMap) (r : Route) → leads_between m r ≡ true → LeadsBetween m r
-leads-so m r e =
-    let h = both (not (nat_eq r.from r.to)) (leads m r) e in
-    (λ one. true≢false (sym (same r.from r.to one) ∙ not-false (nat_eq r.from r.to) h.0), leads-to m r h.1)
-
-so-leads : (m : NetMap) (r : Route) → LeadsBetween m r → leads_between m r ≡ true
-so-leads m r h = two (not (nat_eq r.from r.to)) (leads m r) (by (nat_eq r.from r.to) refl) (to-leads m r h.1)
+so-between : (r : Route) → r.from ≢ r.to → is_between r ≡ true
+so-between r ne = by (nat_eq r.from r.to) refl
   where
     by : (b : Bool) → nat_eq r.from r.to ≡ b → not b ≡ true
-    by true e = absurd (h.0 (equal r.from r.to e))
+    by true e = absurd (ne (equal r.from r.to e))
     by false e = refl
+
+between-so : (r : Route) → is_between r ≡ true → r.from ≢ r.to
+between-so r e = λ one. true≢false (sym (same r.from r.to one) ∙ not-false (nat_eq r.from r.to) e)
+
+leads-so : (m : NetMap) (r : Route) → leads_between m r ≡ true → LeadsBetween m r
+leads-so m r e =
+    let h = both (is_between r) (leads m r) e in
+    (between-so r h.0, leads-to m r h.1)
+
+so-leads : (m : NetMap) (r : Route) → LeadsBetween m r → leads_between m r ≡ true
+so-leads m r h = two (is_between r) (leads m r) (so-between r h.0) (to-leads m r h.1)
 
 -- ---- the first route that leads astray
 
@@ -89,8 +95,33 @@ only-lead m (r ∷ rs) all = (all.0.1, only-lead m rs all.1)
 pub rises : (m : NetMap) (found : List Route) (ranks : List RankEntry) → AreWhole m found → AllByRecursion (LeadsBetween m) found → IsCertificate m found ranks → FindsFault m found ranks None
 rises m found ranks w lead rise = record { whole = w; lead = lead; rise = rise }
 
-pub falls : (m : NetMap) (found : List Route) (ranks : List RankEntry) (next : ℕ) → AreWhole m found → AllByRecursion (LeadsBetween m) found
-    → (AllByRecursion (λ r. LeadsTo m r.from r.to r.walk) found × IsCertificate m found ranks → ⊥) → next ≡ length found + length ranks + 1 → FindsFault m found ranks (Some (next, BadRank))
+pub falls : (m : NetMap) (found : List Route) (ranks : List RankEntry) (next : ℕ) → AreWhole m found → AllByRecursion (LeadsBetween m) found → (AreRight m found ranks → ⊥) → next ≡ length found + length ranks + 1
+    → FindsFault m found ranks (Some (next, BadRank))
 falls m found ranks next w lead wrong n =
     let at : suc (length found + length ranks) ≡ next = omega (arith, n) in
-    subst (λ k. FindsFault m found ranks (Some (k, BadRank))) at (falling w lead (λ rise. wrong (only-lead m found lead, rise)))
+    subst (λ k. FindsFault m found ranks (Some (k, BadRank))) at (falling w lead (λ rise. wrong (lead, rise)))
+
+-- ---- what the check says
+
+-- routes that lead, and are between two hosts
+lead-between : (m : NetMap) (rs : List Route) → list_all is_between rs ≡ true → AllByRecursion (λ r. LeadsTo m r.from r.to r.walk) rs → AllByRecursion (LeadsBetween m) rs
+lead-between m [] e all = tt
+lead-between m (r ∷ rs) e all =
+    let h = both (is_between r) (list_all is_between rs) e in
+    ((between-so r h.0, all.0), lead-between m rs h.1 all.1)
+
+all-between : (m : NetMap) (rs : List Route) → AllByRecursion (LeadsBetween m) rs → list_all is_between rs ≡ true
+all-between m [] all = refl
+all-between m (r ∷ rs) all = two (is_between r) (list_all is_between rs) (so-between r all.0.0) (all-between m rs all.1)
+
+-- the check accepts routes that are between two hosts each
+pub accepted : (m : NetMap) (found : List Route) (ranks : List RankEntry) → list_all is_between found ≡ true → AllByRecursion (λ r. LeadsTo m r.from r.to r.walk) found × IsCertificate m found ranks → (true ≡ true) ↔ AreRight m found ranks
+accepted m found ranks e h = (λ one. (lead-between m found e h.0, h.1), λ right. refl)
+
+-- it refuses them
+pub refused : (m : NetMap) (found : List Route) (ranks : List RankEntry) → (AllByRecursion (λ r. LeadsTo m r.from r.to r.walk) found × IsCertificate m found ranks → ⊥) → (false ≡ true) ↔ AreRight m found ranks
+refused m found ranks wrong = (λ e. absurd (true≢false (sym e)), λ right. absurd (wrong (only-lead m found right.0, right.1)))
+
+-- one isn't between two hosts
+pub not-between : (m : NetMap) (found : List Route) (ranks : List RankEntry) → list_all is_between found ≡ false → (false ≡ true) ↔ AreRight m found ranks
+not-between m found ranks e = (λ f. absurd (true≢false (sym f)), λ right. absurd (true≢false (sym (all-between m found right.0) ∙ e)))

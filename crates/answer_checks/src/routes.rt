@@ -1,9 +1,9 @@
 //! Where routes with their ranks fail first among the lines of their answer.
 
-ghost use Rattle.std.specs.Prelude.{◌≡◌, ◌≤◌, ◌<◌, ◌+◌, length, None, IfSome};
-ghost use Rattle.std.specs.List.{AllByRecursion};
-ghost use Rattle.answer_defs.specs.Right.{AreWhole, LeadsBetween};
-ghost use Rattle.answer_checks.specs.Checks.{FindsFault, leads_between, astray_from};
+ghost use Rattle.std.specs.Prelude.{◌≡◌, ◌↔◌, ◌≤◌, ◌<◌, ◌+◌, true, length, IfSome};
+ghost use Rattle.std.specs.List.{list_all};
+ghost use Rattle.answer_defs.specs.Right.{AreWhole};
+ghost use Rattle.answer_checks.specs.Checks.{FindsFault, AreRight, is_between, leads_between, astray_from};
 
 use crate::whole::are_whole;
 use answer_defs::Why;
@@ -33,23 +33,52 @@ fn fault_of_whole(map: &FabricMap, routes: &RouteSet, ranks: &Ranks) -> Option<(
     ensures fault { FindsFault map.now routes.now ranks.now result }
     ensures within { IfSome result (λ p. p.0 ≤ length routes.now + length ranks.now + 1) }
 {
-    match first_astray(map, routes.list()) {
-        Some(place) => Some((place + 1, Why::Route)),
-        None => fault_of_ranks(map, routes, ranks),
+    if are_right(map, routes, ranks) {
+        None
+    } else {
+        fault_of_wrong(map, routes, ranks)
     }
 }
 
-// The same where each route leads.
-fn fault_of_ranks(map: &FabricMap, routes: &RouteSet, ranks: &Ranks) -> Option<(usize, Why)>
+// Whether each route leads from one host of the map to another, and the ranks rise along it. Each is followed once.
+fn are_right(map: &FabricMap, routes: &RouteSet, ranks: &Ranks) -> bool
+    ensures { (result ≡ true) ↔ AreRight map.now routes.now ranks.now }
+{
+    if are_between(routes.list()) {
+        match check(map, routes, ranks) {
+            Ok(()) => true,
+            Err(_) => false,
+        }
+    } else {
+        false
+    }
+}
+
+// Whether each route is between two hosts.
+fn are_between(routes: &[Route]) -> bool
+    ensures { result ≡ list_all is_between routes.now }
+{
+    routes.iter().all(|r| r.from != r.to)
+}
+
+// The same where a route leads astray, or the ranks don't rise.
+fn fault_of_wrong(map: &FabricMap, routes: &RouteSet, ranks: &Ranks) -> Option<(usize, Why)>
     requires whole { AreWhole map.now routes.now }
-    requires lead { AllByRecursion (LeadsBetween map.now) routes.now }
+    requires wrong { ¬ AreRight map.now routes.now ranks.now }
     ensures fault { FindsFault map.now routes.now ranks.now result }
     ensures within { IfSome result (λ p. p.0 ≤ length routes.now + length ranks.now + 1) }
 {
-    match check(map, routes, ranks) {
-        Ok(()) => None,
-        Err(_) => Some((routes.list().len() + ranks.list().len() + 1, Why::Rank)),
+    match first_astray(map, routes.list()) {
+        Some(place) => Some((place + 1, Why::Route)),
+        None => Some((last_place(routes, ranks), Why::Rank)),
     }
+}
+
+// The place of the last line of an answer.
+fn last_place(routes: &RouteSet, ranks: &Ranks) -> usize
+    ensures { result ≡ length routes.now + length ranks.now + 1 }
+{
+    routes.list().len() + ranks.list().len() + 1
 }
 
 // The place of the first route that doesn't lead from one host of the map to another.

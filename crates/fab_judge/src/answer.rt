@@ -12,7 +12,6 @@ ghost use Rattle.fab_judge.specs.Blocks.{block_in, block_by};
 
 use crate::block::{Block, block_in};
 use crate::broken::{read_broken, refused_pair};
-use crate::first_lines::may_answer;
 use crate::past::Past;
 use crate::ranks::read_ranks;
 use crate::reader::Reader;
@@ -21,6 +20,7 @@ use crate::shown::ShownMap;
 use crate::stop::Unread;
 use crate::tables::read_tables;
 use fabric_map::FabricMap;
+use judge_defs::may_answer;
 use line_forms::ReportLine;
 use port_graph::{Fabric, RouteSet};
 use rank_cert::Ranks;

@@ -125,7 +125,7 @@ fn fault_with_routes(
         → Judges f.now before (answered c (WithRoutes routes ranks)) fault past.new) }
     ensures within { IfOk result (λ fault. IsWithin fault (length routes + (length ranks + 1))) }
 {
-    match fault_on(complete_map(&past.shown), &routes, &ranks) {
+    match fault_on(complete_map(&past.shown), &routes, ranks) {
         Some(fault) => Ok(Some(fault)),
         None => {
             let routed = routed_hosts(alloc, f, &past.shown)?;
@@ -136,12 +136,15 @@ fn fault_with_routes(
 }
 
 // Where routes with their ranks fail on the last map, where that is complete.
-fn fault_on(map: Option<&FabricMap>, routes: &RouteSet, ranks: &Ranks) -> Option<(usize, Why)>
-    ensures fault { FindsFaultOn (option_copied map.entry) routes.now ranks.now result }
-    ensures within { IfSome result (λ p. p.0 ≤ length routes.now + length ranks.now + 1) }
+fn fault_on(map: Option<&FabricMap>, routes: &RouteSet, ranks: Ranks) -> Option<(usize, Why)>
+    ensures fault { FindsFaultOn (option_copied map.entry) routes.now ranks result }
+    ensures within { IfSome result (λ p. p.0 ≤ length routes.now + length ranks + 1) }
 {
     match map {
-        Some(map) => routes_fault(map, routes, ranks),
+        Some(map) => {
+            let known = ranks.over(map);
+            routes_fault(map, routes, &known)
+        }
         None => Some((0, Why::Route)),
     }
 }

@@ -15,7 +15,6 @@
 //! | `verdict`, `stop` | the verdict, and why a reading ends early |
 //! | `reader` | the report's lines as they come, with their numbers |
 //! | `answer` | the answer of a command, and how it is read |
-//! | `first_lines`, `calls` | which line may be its first |
 //! | `block`, `tables`, `routes`, `ranks`, `broken` | its lines after the first |
 //! | `shown`, `past` | the last map, and what else the answers so far say |
 //! | `faults` | what is judged of an answer |
@@ -24,9 +23,7 @@
 mod answer;
 mod block;
 mod broken;
-mod calls;
 mod faults;
-mod first_lines;
 mod judging;
 mod past;
 mod ranks;

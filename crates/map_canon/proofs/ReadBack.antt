@@ -1,5 +1,5 @@
 -- A printed map is read back: its vertices, then its cables.
-use Rattle.std.proofs.Common.{◌≡◌, ◌≢◌, ◌<◌, ℕ, zero, suc, ◌+◌, ◌^◌, List, [], ◌∷◌, ◌++◌, ◌||◌, Bool, true, false, length, nat_eq, nat_lt, Some, None, Ok, Err, refl, ap, sym, subst, ◌∙◌, append_assoc, length-append, arith, if◌then◌else◌, ◌⊎◌, inl, inr}
+use Rattle.std.proofs.Common.{◌≡◌, ◌≢◌, ◌<◌, ℕ, zero, suc, ◌+◌, ◌^◌, List, [], ◌∷◌, ◌++◌, ◌||◌, Bool, true, false, length, nat_eq, nat_lt, Some, None, Ok, Err, refl, ap, sym, subst, ◌∙◌, append_assoc, append-nil, length-append, arith, if◌then◌else◌, ◌⊎◌, inl, inr}
 use Rattle.std.specs.Prelude.{codes, decimal, flat_map, slice_get}
 use Rattle.std.specs.List.{AllByRecursion, list_any}
 use Rattle.std.proofs.lemmas.Bool.{cases_order}
@@ -20,6 +20,8 @@ use Rattle.fab_text.specs.Fault.{and_then, as_kind}
 use Rattle.fab_text.specs.Written.{line_text}
 use Rattle.fabric_file.specs.Reading.{AreNamed}
 use Rattle.fabric_file.proofs.Names.{name-names, apart-before, all-nth}
+use Rattle.fabric_file.proofs.PlainLines.{is_plain}
+use Rattle.fabric_file.proofs.PlainWords.{name-plain}
 use Rattle.fabric_map.specs.declared.fault.MapFault.TheVariants.{HostTaken, Full}
 use Rattle.fabric_map.specs.Growing.{IsFabricMap, empty_map, switch_refusal, cable_refusal, with_host, with_switch, with_cable, is_full}
 use Rattle.fabric_map.proofs.Listings.{few_switches, switches_of-host, switches_of-switch}
@@ -27,13 +29,9 @@ use Rattle.run_defs.specs.LineText.{map_text, vertices_text, vertex_numbered, ve
 use Rattle.map_canon.specs.Declaring.{declared, unless, host_placed, mark_word, says, end_word, cable_between, vertex_named}
 use Rattle.map_canon.specs.Reading.{map_from}
 use Rattle.map_canon.specs.Printing.{IsOfFabric, AreOfFabric, IsReadBack}
-use Rattle.map_canon.proofs.Lines.{is_plain, printed-declares, printed-ends}
-use Rattle.map_canon.proofs.Words.{AreNumbered, IsVertexWord, vertex-word, name-plain, u32-read, switch-plain, turn-read, turn-plain}
+use Rattle.map_canon.proofs.Lines.{printed-declares, printed-ends}
+use Rattle.map_canon.proofs.Words.{AreNumbered, IsVertexWord, vertex-word, u32-read, switch-plain, turn-read, turn-plain}
 use Rattle.map_canon.proofs.Free.{cabled, cable-taken}
-
-append-none : {X : Type 0} (xs : List X) → xs ++ [] ≡ xs
-append-none [] = refl
-append-none (x ∷ xs) = ap (λ l. x ∷ l) (append-none xs)
 
 -- vertices with their marks alone
 abbrev uncabled : List MapVertex → List Bool → NetMap
@@ -150,7 +148,7 @@ vertices-back : (past k : ℕ) (f : Network) (done : List MapVertex) (marks : Li
     ≡ map_from past f (uncabled (done ++ todo) (marks ++ more)) (lines_left (record { number = k + length todo; text = rest }))
 vertices-back past k f done marks [] [] rest is good there apart numbered marked few =
     let plus : k ≡ k + 0 = omega arith in
-    λ i. map_from past f (uncabled (sym (append-none done) i) (sym (append-none marks) i)) (lines_left (record { number = plus i; text = rest }))
+    λ i. map_from past f (uncabled (sym (append-nil done) i) (sym (append-nil marks) i)) (lines_left (record { number = plus i; text = rest }))
 vertices-back past k f done marks [] (b ∷ bs) rest is good there apart numbered marked few = absurd marked
 vertices-back past k f done marks (Host h ∷ todo) [] rest is good there apart numbered marked few = absurd marked
 vertices-back past k f done marks (Switch s ∷ todo) [] rest is good there apart numbered marked few = absurd marked
@@ -171,13 +169,11 @@ vertices-back past k f done marks (Switch s ∷ todo) (b ∷ more) rest is good 
     let words = (codes "#" ++ decimal s) ∷ core_word b ∷ [] in
     let plus : (k + 1) + length todo ≡ k + length (Switch s ∷ todo) = omega arith in
     let first : length done < 4294967295 = omega arith in
-    let low = few_switches done in
     let own = numbered.0 in
-    let small : s < 2 ^ 32 = omega arith in
     let shorter : length (done ++ Switch s ∷ []) + length todo < 2 ^ 32 = omega (arith, length-append done (Switch s ∷ [])) in
     let count : length (switches_of done) + 1 ≡ length (switches_of (done ++ Switch s ∷ [])) = sym (ap length (switches_of-switch done s) ∙ length-append (switches_of done) (s ∷ [])) in
     ap (λ t. map_from past f (uncabled done marks) (lines_left (record { number = k; text = t }))) (append_assoc (line_text (codes "switch" ∷ words)) behind rest)
-    ∙ printed-declares past k f (uncabled done marks) (uncabled (done ++ Switch s ∷ []) (marks ++ b ∷ [])) (codes "switch") words (behind ++ rest) (refl, (switch-plain s small, (mark-plain b, tt))) refl refl
+    ∙ printed-declares past k f (uncabled done marks) (uncabled (done ++ Switch s ∷ []) (marks ++ b ∷ [])) (codes "switch") words (behind ++ rest) (refl, (switch-plain s, (mark-plain b, tt))) refl refl
     (switch-declared f done marks s b own first)
     ∙ vertices-back past (k + 1) f (done ++ Switch s ∷ []) (marks ++ b ∷ []) todo more rest is good there.1 (subst (λ l. Apart (hosts_of l)) (sym (append_assoc done (Switch s ∷ []) todo)) apart)
     (subst (λ n. AreNumbered n todo) count numbered.1) marked shorter
@@ -188,7 +184,7 @@ record IsEnd (f : Network) (m : NetMap) (d : MapPort) : Type 0 where
   pub word : IsVertexWord f m d.v (vertex_numbered f m d.v)
   pub turn : IsTurn d.p
 
-there-at : (vs : List MapVertex) (v : ℕ) → v < length vs → (x : MapVertex) × (slice_get vs v ≡ Some x)
+pub there-at : (vs : List MapVertex) (v : ℕ) → v < length vs → (x : MapVertex) × (slice_get vs v ≡ Some x)
 there-at [] v l = absurd (omega arith)
 there-at (x ∷ vs) zero l = (x, refl)
 there-at (x ∷ vs) (suc v) l = there-at vs v (omega arith)
@@ -225,7 +221,7 @@ cables-back : (past k : ℕ) (f : Network) (m : NetMap) (done todo : List MapCab
     ≡ map_from past f (cabled m (done ++ todo)) (lines_left (record { number = k + length todo; text = rest }))
 cables-back past k f m done [] rest is good of r e low turns =
     let plus : k ≡ k + 0 = omega arith in
-    λ i. map_from past f (cabled m (sym (append-none done) i)) (lines_left (record { number = plus i; text = rest }))
+    λ i. map_from past f (cabled m (sym (append-nil done) i)) (lines_left (record { number = plus i; text = rest }))
 cables-back past k f m done (c ∷ todo) rest is good of r e low turns =
     let behind = flat_map (λ c. line_text (cable_words f m c)) todo in
     let plus : (k + 1) + length todo ≡ k + length (c ∷ todo) = omega arith in
@@ -233,7 +229,7 @@ cables-back past k f m done (c ∷ todo) rest is good of r e low turns =
     let b = is-end f m (second_end c) is good of r low.1.0 turns.1.0 in
     ap (λ t. map_from past f (cabled m done) (lines_left (record { number = k; text = t }))) (append_assoc (line_text (cable_words f m c)) behind rest)
     ∙ printed-declares past k f (cabled m done) (cabled m (done ++ c ∷ [])) (codes "cable") (vertex_numbered f m c.v ∷ turn_text c.p ∷ vertex_numbered f m c.w ∷ turn_text c.q ∷ []) (behind ++ rest)
-    (refl, (a.word.plain, (turn-plain c.p a.turn, (b.word.plain, (turn-plain c.q b.turn, tt))))) refl refl
+    (refl, (a.word.plain, (turn-plain c.p, (b.word.plain, (turn-plain c.q, tt))))) refl refl
     (cable-declared f m done c a b (cable-taken m done todo c r e))
     ∙ cables-back past (k + 1) f m (done ++ c ∷ []) todo rest is good of r (e ∙ sym (append_assoc done (c ∷ []) todo)) low.1.1 turns.1.1
     ∙ (λ i. map_from past f (cabled m (append_assoc done (c ∷ []) todo i)) (lines_left (record { number = plus i; text = rest })))
@@ -249,5 +245,5 @@ map-read-back f m r of is good =
     ap (λ t. map_from past f empty_map (lines_left (record { number = 1; text = t }))) (append_assoc (vertices_text f m.vertices m.core) cables last)
     ∙ vertices-back past 1 f [] [] m.vertices m.core (cables ++ last) is good of r.is_map.hosts_once (map-numbered m r.is_map) marked (let l = r.few_vertices in omega arith)
     ∙ cables-back past k f m [] m.cables last is good of r refl r.is_map.cabled_vertices r.is_map.ports_in_range
-    ∙ ap (λ t. map_from past f m (lines_left (record { number = k + length m.cables; text = t }))) (sym (append-none last))
+    ∙ ap (λ t. map_from past f m (lines_left (record { number = k + length m.cables; text = t }))) (sym (append-nil last))
     ∙ printed-ends past (k + length m.cables) f m (codes "endmap") [] [] (refl, tt) refl refl

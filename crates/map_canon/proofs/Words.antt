@@ -1,61 +1,26 @@
 -- The words of a printed map, and what they are read as.
-use Rattle.std.proofs.Common.{◌≡◌, ◌≢◌, ◌<◌, ◌≤◌, ◌+◌, ◌-◌, ◌^◌, ℕ, zero, suc, List, [], ◌∷◌, ◌++◌, Bool, true, false, ◌&&◌, ◌||◌, length, nat_eq, nat_lt, nat_le, Some, option_map, Ok, Err, refl, ap, sym, ◌∙◌, subst, true≢false, arith, if◌then◌else◌}
-use Rattle.std.specs.Prelude.{ℤ, pos, negsuc, position, slice_get, codes, decimal}
-use Rattle.std.specs.List.{AllByRecursion, list_all}
-use Rattle.std.specs.Char.{digit_value}
-use Rattle.std.specs.Str.Parse.{AllDigits}
+use Rattle.std.proofs.Common.{◌≡◌, ◌≢◌, ◌<◌, ◌≤◌, ◌+◌, ◌-◌, ◌^◌, ℕ, zero, suc, List, [], ◌∷◌, ◌++◌, Bool, true, false, ◌||◌, length, nat_eq, nat_lt, Some, option_map, Ok, refl, ap, ◌∙◌, subst, arith, if◌then◌else◌}
+use Rattle.std.specs.Prelude.{ℤ, pos, negsuc, position, slice_get, codes, decimal, bytes_eq}
+use Rattle.std.specs.List.{AllByRecursion}
 use Rattle.std.proofs.lemmas.Bool.Decides.{nat_tests, Decides-eqb}
-use Rattle.std.proofs.lemmas.Fmt.{decimal_is_IsNumeral}
 use Rattle.net_defs.specs.declared.vertex.Vertex.TheVariants.{Host as FabricHost}
 use Rattle.net_defs.specs.Network.{Network, IsFabric, Apart}
 use Rattle.net_defs.specs.Turn.{is_turn, IsTurn}
 use Rattle.net_defs.specs.Building.{vertex_named as fabric_vertex, name_of}
-use Rattle.net_defs.proofs.Ends.{both}
 use Rattle.map_defs.specs.declared.vertex.MapVertex.{MapVertex}
 use Rattle.map_defs.specs.declared.vertex.MapVertex.TheVariants.{Host, Switch}
 use Rattle.map_defs.specs.NetMap.{NetMap, hosts_of}
 use Rattle.map_defs.specs.Routing.{is_host_named}
-use Rattle.fab_text.specs.declared.fault.NumFault.TheVariants.{NotNumber, TooLarge}
-use Rattle.fab_text.specs.Word.{is_digit, is_name_byte, is_letter, name_test, number_within, u32_of, turn_of, with_sign, minus}
+use Rattle.fab_text.specs.Word.{name_test, u32_of, turn_of, with_sign, minus}
 use Rattle.fabric_file.specs.Reading.{AreNamed}
 use Rattle.fabric_file.proofs.Cutting.{position-cons}
 use Rattle.fabric_file.proofs.Names.{name-names}
+use Rattle.fabric_file.proofs.PlainLines.{is_plain}
+use Rattle.fabric_file.proofs.PlainWords.{digits-plain, name-no_sign, name-plain, number-read}
 use Rattle.run_defs.specs.LineText.{turn_text, vertex_text}
 use Rattle.map_canon.specs.Declaring.{is_switch_numbered, vertex_named, host_vertex, switch_vertex, vertex_test, switch_test, is_number}
 use Rattle.map_canon.specs.Printing.{IsOfFabric}
-use Rattle.map_canon.proofs.Lines.{is_plain_byte, is_plain}
-
--- digits
-digit-test : (c : ℕ) → digit_value c < 10 → is_digit c ≡ true
-digit-test c h = grind (arith, nat_tests)
-
-digit-plain : (c : ℕ) → is_digit c ≡ true → is_plain_byte c ≡ true
-digit-plain c e = grind (arith, nat_tests)
-
-digits-tests : (ds : List ℕ) → AllDigits 10 ds → list_all is_digit ds ≡ true
-digits-tests [] all = refl
-digits-tests (d ∷ ds) all = λ i. digit-test d all.0 i && digits-tests ds all.1 i
-
-digits-plain : (ds : List ℕ) → AllDigits 10 ds → list_all is_plain_byte ds ≡ true
-digits-plain [] all = refl
-digits-plain (d ∷ ds) all = λ i. digit-plain d (digit-test d all.0) i && digits-plain ds all.1 i
-
-plain-bytes : (ds : List ℕ) → 0 < length ds → list_all is_plain_byte ds ≡ true → is_plain ds ≡ true
-plain-bytes [] h e = absurd (omega arith)
-plain-bytes (d ∷ ds) h e = e
-
--- a printed number is read as what it is
-pub number-read : (most n : ℕ) → n ≤ most → n < 2 ^ 64 → number_within most (decimal n) ≡ Ok n
-number-read most n h fits =
-    let printed = decimal_is_IsNumeral n fits in
-    let some : nat_lt 0 (length (decimal n)) ≡ true = let k : 0 < length (decimal n) = printed.0.0 in grind (arith, nat_tests) in
-    let digits = digits-tests (decimal n) printed.0.1 in
-    let few : nat_le n most ≡ true = grind (arith, nat_tests) in
-    (λ i. if some i && digits i then (if nat_le (printed.1 i) most then Ok (printed.1 i) else Err TooLarge) else Err NotNumber)
-    ∙ (λ i. if few i then Ok n else Err TooLarge)
-
-decimal-bytes : (n : ℕ) → n < 2 ^ 64 → list_all is_plain_byte (decimal n) ≡ true
-decimal-bytes n fits = digits-plain (decimal n) (decimal_is_IsNumeral n fits).0.1
+use Rattle.map_canon.specs.Reading.{is_end}
 
 -- a printed port is read as what it is
 small : (k : ℕ) → is_turn (pos k) ≡ true → k ≤ 15
@@ -72,32 +37,16 @@ turn-read (pos zero) t = refl
 turn-read (pos (suc k)) t = ap (with_sign pos) (number-read 15 (suc k) (small (suc k) t) (fits-small (suc k) (small (suc k) t)))
 turn-read (negsuc k) t = ap (with_sign minus) (number-read 15 (suc k) (low k t) (fits-small (suc k) (low k t)))
 
-pub turn-plain : (p : ℤ) → IsTurn p → is_plain (turn_text p) ≡ true
-turn-plain (pos zero) t = refl
-turn-plain (pos (suc k)) t = decimal-bytes (suc k) (fits-small (suc k) (small (suc k) t))
-turn-plain (negsuc k) t = decimal-bytes (suc k) (fits-small (suc k) (low k t))
-
--- names
-name-byte-plain : (b : ℕ) → is_name_byte b ≡ true → is_plain_byte b ≡ true
-name-byte-plain b e = grind (arith, nat_tests)
-
-name-bytes-plain : (w : List ℕ) → list_all is_name_byte w ≡ true → list_all is_plain_byte w ≡ true
-name-bytes-plain [] e = refl
-name-bytes-plain (b ∷ bs) e = let two = both (is_name_byte b) (list_all is_name_byte bs) e in λ i. name-byte-plain b two.0 i && name-bytes-plain bs two.1 i
-
-pub name-plain : (name : List ℕ) → name_test name ≡ true → is_plain name ≡ true
-name-plain [] e = absurd (true≢false (sym e))
-name-plain (b ∷ bs) e = name-bytes-plain (b ∷ bs) (both _ (list_all is_name_byte (b ∷ bs)) e).1
-
-letter-no_sign : (b : ℕ) → is_letter b ≡ true → nat_eq b 35 ≡ false
-letter-no_sign b e = grind (arith, nat_tests)
+pub turn-plain : (p : ℤ) → is_plain (turn_text p) ≡ true
+turn-plain (pos zero) = refl
+turn-plain (pos (suc k)) = digits-plain (suc k)
+turn-plain (negsuc k) = digits-plain (suc k)
 
 -- a name doesn't begin with `#`
 name-named : (f : Network) (m : NetMap) (w : List ℕ) → name_test w ≡ true → vertex_named f m w ≡ host_vertex m (fabric_vertex f w)
 name-named f m [] e = refl
 name-named f m (b ∷ bs) e =
-    let letter : is_letter b ≡ true = (both (nat_le 1 (length (b ∷ bs)) && nat_le (length (b ∷ bs)) 16) (is_letter b) (both (nat_le 1 (length (b ∷ bs)) && nat_le (length (b ∷ bs)) 16 && is_letter b) (list_all is_name_byte (b ∷ bs)) e).0).1 in
-    let t = letter-no_sign b letter in
+    let t = name-no_sign b bs e in
     λ i. if t i then switch_vertex m (u32_of bs) else host_vertex m (fabric_vertex f (b ∷ bs))
 
 -- what holds of each address holds of a host's
@@ -183,15 +132,15 @@ host-word f m v h is good there apart e =
 pub u32-read : (s : ℕ) → s < 2 ^ 32 → u32_of (decimal s) ≡ Ok s
 u32-read s h = number-read (2 ^ 32 - 1) s (omega arith) (omega arith)
 
-pub switch-plain : (s : ℕ) → s < 2 ^ 32 → is_plain (codes "#" ++ decimal s) ≡ true
-switch-plain s h = decimal-bytes s (omega arith)
+pub switch-plain : (s : ℕ) → is_plain (codes "#" ++ decimal s) ≡ true
+switch-plain s = digits-plain s
 
 pub switch-word : (f : Network) (m : NetMap) (v s : ℕ) → AreNumbered 0 m.vertices → length m.vertices < 2 ^ 32 → slice_get m.vertices v ≡ Some (Switch s) → IsVertexWord f m v (vertex_text f (Switch s))
 switch-word f m v s numbered few e =
     let most = number-most m.vertices 0 v s numbered e in
     let h : s < 2 ^ 32 = omega arith in
     record {
-      plain = switch-plain s h;
+      plain = switch-plain s;
       form = or-right (name_test (codes "#" ++ decimal s)) (switch_test (codes "#" ++ decimal s)) (ap is_number (u32-read s h));
       named = ap (switch_vertex m) (u32-read s h) ∙ found-switch m.vertices 0 v s numbered e;
     }
@@ -199,3 +148,10 @@ switch-word f m v s numbered few e =
 pub vertex-word : (f : Network) (m : NetMap) (v : ℕ) (x : MapVertex) → IsFabric f → AreNamed f → IsOfFabric f x → Apart (hosts_of m.vertices) → AreNumbered 0 m.vertices → length m.vertices < 2 ^ 32 → slice_get m.vertices v ≡ Some x → IsVertexWord f m v (vertex_text f x)
 vertex-word f m v (Host h) is good there apart numbered few e = host-word f m v h is good there apart e
 vertex-word f m v (Switch s) is good there apart numbered few e = switch-word f m v s numbered few e
+
+-- ---- the end of a map
+
+-- a line is no `endmap` that begins with another word
+pub not-end : (w : List ℕ) (ws : List (List ℕ)) → bytes_eq w (codes "endmap") ≡ false → is_end (w ∷ ws) ≡ false
+not-end w [] e = e
+not-end w (v ∷ ws) e = refl

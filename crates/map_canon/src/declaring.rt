@@ -1,6 +1,6 @@
 //! A line of a map: its words, and what they declare or their first fault.
 
-ghost use Rattle.std.specs.Prelude.{◌≡◌, IsErrOf, IsOk};
+ghost use Rattle.std.specs.Prelude.{◌≡◌, ◌∷◌, IsErrOf, IsOk};
 ghost use Rattle.fab_text.specs.Line.{words_of};
 ghost use Rattle.fab_text.specs.Fault.{LineLeaves};
 ghost use Rattle.map_canon.specs.Declaring.{declared, declared_as, host_line, host_declared, host_placed, switch_line};
@@ -10,7 +10,9 @@ ghost use Rattle.map_canon.specs.Declaring.{switch_vertex, host_vertex, vertex_t
 ghost use Rattle.map_canon.specs.Reading.{is_end};
 
 use crate::growing::MapSoFar;
-use fab_text::{FaultKind, LineFault, NumFault, Words, is_name, read_turn, read_u32, words};
+use fab_text::{
+    FaultKind, LineFault, NumFault, Words, is_keyword, is_name, read_turn, read_u32, words,
+};
 use fabric_map::MapCable;
 use port_graph::{Fabric, Vertex};
 
@@ -18,10 +20,21 @@ use port_graph::{Fabric, Vertex};
 pub(crate) fn is_end(line: &[u8]) -> bool
     ensures { result ≡ is_end (words_of line.now) }
 {
-    match words(line).one() {
-        Some(word) => word == b"endmap".as_slice(),
+    let mut args = words(line);
+    match args.next_word() {
+        Some(first) => is_end_by(first, args),
         None => false,
     }
+}
+
+// Whether a line is `endmap` that begins with this word. Only after that word is a second looked for.
+fn is_end_by(first: &[u8], mut args: Words) -> bool
+    ensures { result ≡ is_end (first.now ∷ words_of args.entry) }
+{
+    if !is_keyword(first, b"endmap") {
+        return false;
+    }
+    args.next_word().is_none()
 }
 
 /// Adds what a line declares. A line that has a fault takes no memory.
@@ -42,11 +55,11 @@ fn declare_as(map: &mut MapSoFar, f: &Fabric, first: &[u8], args: Words) -> Resu
     ensures memory { IsErrOf result LineFault.NoMemory
         → IsOk (declared_as f.now map.old first.now (words_of args.entry)) }
 {
-    if first == b"host".as_slice() {
+    if is_keyword(first, b"host") {
         declare_host(map, f, args)
-    } else if first == b"switch".as_slice() {
+    } else if is_keyword(first, b"switch") {
         declare_switch(map, args)
-    } else if first == b"cable".as_slice() {
+    } else if is_keyword(first, b"cable") {
         declare_cable(map, f, args)
     } else {
         Err(LineFault::Wrong(FaultKind::BadWord))
@@ -251,9 +264,9 @@ fn says(number: Result<u32, NumFault>, next: usize) -> bool
 fn read_mark(word: &[u8]) -> Result<bool, FaultKind>
     ensures { result ≡ mark_word word.now }
 {
-    if word == b"core".as_slice() {
+    if is_keyword(word, b"core") {
         Ok(true)
-    } else if word == b"outside".as_slice() {
+    } else if is_keyword(word, b"outside") {
         Ok(false)
     } else {
         Err(FaultKind::BadWord)

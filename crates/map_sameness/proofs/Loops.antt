@@ -113,3 +113,7 @@ none-stray n m v i r all p = by (is_turn p) refl
     by : (b : Bool) → is_turn p ≡ b → is_stray n m v i p ≡ false
     by true t = let k = place-of-turn p t in ap (is_stray n m v i) k.1.1 ∙ all k.0 k.1.0
     by false t = ap (λ o. is_some o && not (is_cabled_at n i.vertex (p +ℤ i.offset))) (map-beyond m (record { v = v; p = p }) r t)
+
+-- a port of the map without a cable isn't stray
+pub stray-outside : (n : Network) (m : NetMap) (v : ℕ) (i : Image) (p : ℤ) → map_far m (record { v = v; p = p }) ≡ None → is_stray n m v i p ≡ false
+stray-outside n m v i p e = ap (λ o. is_some o && not (is_cabled_at n i.vertex (p +ℤ i.offset))) e

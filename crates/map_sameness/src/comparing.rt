@@ -191,12 +191,22 @@ fn has_stray(m: &FabricMap, f: &Fabric, v: u32, i: Image) -> bool
     ensures stray { result ≡ true → HasStray f.now m.now v i }
     ensures none { result ≡ false → (p : ℤ) → is_stray f.now m.now v i p ≡ false }
 {
-    for place in 0..31u8 {
-        if is_stray(m, f, v, i, i16::from(place) - 15) {
+    let places = m.span(v);
+    for place in places.0..places.1 {
+        if is_stray(m, f, v, i, port_at(place)) {
             return true;
         }
     }
     false
+}
+
+// The port at a place of its vertex.
+fn port_at(place: usize) -> i16
+    requires { place < 31 }
+    ensures port { result ≡ pos place -ℤ pos 15 }
+    ensures turn { IsTurn result }
+{
+    place as i16 - 15
 }
 
 // Whether a port of the map has a cable, and its image none.

@@ -5,7 +5,8 @@ ghost use Rattle.map_defs.specs.NetMap.{MapPort};
 ghost use Rattle.map_defs.specs.Ranks.{rank_of};
 ghost use Rattle.rank_cert.specs.Listing.{rise_after, comes_after, port_of, rank_at};
 
-use crate::crossings::Crossing;
+use crate::crossings::{Crossing, crossings};
+use fabric_map::FabricMap;
 use map_defs::RankEntry;
 use std::marker::Model;
 
@@ -44,6 +45,21 @@ impl Ranks {
             entries: v,
             crossings,
             rising,
+        }
+    }
+
+    /// The same ranks with the channels of a map beside them, so that `check` finds each by one look. Without them where
+    /// there is no room, and where the map has more vertices than there are ranks: then a table takes longer than it
+    /// saves.
+    pub fn over(self, m: &FabricMap) -> Ranks
+        ensures { result ≡ self }
+    {
+        if self.entries.len() < m.vertices().len() {
+            return self;
+        }
+        match crossings(*self.entries.allocator(), m, &self) {
+            Ok(table) => self.with_crossings(table),
+            Err(_) => self,
         }
     }
 

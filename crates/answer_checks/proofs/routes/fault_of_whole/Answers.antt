@@ -1,11 +1,11 @@
-use Rattle.std.proofs.Common.{◌+◌, refl, ap, ◌∙◌}
-use Rattle.answer_checks.specs.Checks.{astray_from}
-use Rattle.answer_checks.proofs.Astray.{strays, all-lead}
+use Rattle.std.proofs.Common.{sym, ◌∙◌, true≢false}
+use Rattle.answer_checks.proofs.Astray.{rises}
 use Rattle.answer_checks.proofs.routes.fault_of_whole.Goals as goal
 
-pub fault_of_ranks-requires-clause-lead : goal.fault_of_ranks-requires-clause-lead
-fault_of_ranks-requires-clause-lead c = all-lead c.args.map.now 0 c.args.routes.now (c.in-None.ensures.first ∙ ap (astray_from c.args.map.now 0) c.list.ensures.value)
+pub returns-then-are_right-clause-fault : goal.returns-then-are_right-clause-fault
+returns-then-are_right-clause-fault c =
+    let right = c.are_right.ensures.0 c.if-are_right.true in
+    rises c.args.map.now c.args.routes.now c.args.ranks.now c.requires right.0 right.1
 
-pub returns-in-Some-clause-fault : goal.returns-in-Some-clause-fault
-returns-in-Some-clause-fault c =
-    strays c.args.map.now c.args.routes.now c.args.ranks.now c.in-Some.place (c.in-Some.place + 1) c.requires (c.in-Some.ensures.first ∙ ap (astray_from c.args.map.now 0) c.list.ensures.value) refl
+pub fault_of_wrong-requires-clause-wrong : goal.fault_of_wrong-requires-clause-wrong
+fault_of_wrong-requires-clause-wrong c = λ right. true≢false (sym (c.are_right.ensures.1 right) ∙ c.if-are_right.false)

@@ -13,7 +13,7 @@ use port_graph::End;
 use run_defs::Command;
 
 /// Whether a line may be the first of a command's answer.
-pub(crate) fn may_answer(command: &Command, line: &ReportLine) -> bool
+pub fn may_answer(command: &Command, line: &ReportLine) -> bool
     ensures { result ≡ may_answer command.now line.now }
 {
     match command {
