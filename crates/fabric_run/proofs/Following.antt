@@ -1,15 +1,20 @@
 -- What follows from the promise of a text.
 use Rattle.std.proofs.Common.{◌<◌, suc, List, [], ◌∷◌, ◌++◌, take, refl, sym, ◌∙◌, subst, arith}
-use Rattle.world_defs.specs.World.{last_count}
+use Rattle.world_defs.specs.World.{WorldState, last_count}
 use Rattle.world_defs.specs.Sound.{IsSound}
+use Rattle.act_defs.specs.Acts.{acted_all, MayActAll}
 use Rattle.run_defs.specs.declared.command.Command.{Command}
 use Rattle.run_defs.specs.declared.command.Command.TheVariants.{Map, Install, Settle}
 use Rattle.run_defs.specs.declared.line.Line.TheVariants.{Map as MapLine, Installed, Settle as SettleLine}
 use Rattle.run_defs.specs.declared.line.MapWords.TheVariants.{Doubtful}
 use Rattle.run_defs.specs.Output.{Piece, OneLine, MapLines}
+use Rattle.run_defs.specs.Deed.{Deed, session_after}
 use Rattle.run_defs.specs.Session.{SessionState}
 use Rattle.run_defs.specs.Run.{Does, IsRun}
 use Rattle.run_laws.proofs.RunsOnce.{runs-more}
+use Rattle.promise_laws.specs.CutShort.{IsCutShort}
+use Rattle.promise_laws.specs.CutShort.IsCutShort.{undone, part_done}
+use Rattle.promise_laws.proofs.Acting.{acts_reach}
 use Rattle.input_texts.specs.Reading.{AcceptedText}
 use Rattle.fabric_run.specs.Following.{HasSoundMoments, HasMetFaults}
 use Rattle.fabric_run.specs.Left.{InjectionsAreLeft}
@@ -19,15 +24,21 @@ use Rattle.fabric_run.specs.Steps.{IsNext}
 use Rattle.fabric_run.proofs.Writing.{take-next}
 
 module _ (a : AcceptedText) (promised : IsPromised a) where
+  -- a command that is cut short: its acts reach reached worlds alone
+  cut-sound : (s : SessionState) (c : Command) (v : WorldState) → IsNext a s c → IsCutShort s c v → IsSound v
+  cut-sound s c v is (undone same) = subst IsSound (sym same) (promised.worlds s.world (promised.reached is.count is.printed s is.run)).sound
+  cut-sound s c v is (part_done d of_c way) =
+      let step = promised.steps s c is in
+      let may : MayActAll s.world d.acts = subst (λ (x : Deed). MayActAll s.world x.acts) (sym (step.done.one d of_c)) step.acts.may in
+      let there = acts_reach a.network s.world way.done way.front.rest (promised.reached is.count is.printed s is.run) (subst (λ acts. MayActAll s.world acts) way.front.both may) in
+      subst IsSound (sym way.there) (promised.worlds (acted_all s.world way.done) there).sound
+
   -- the moments of its run
   pub sound-moments : HasSoundMoments a
   sound-moments = record {
     sound = λ k out last r. (promised.worlds last.world (promised.reached k out last r)).sound;
     no_cycle = λ k out last r. (promised.worlds last.world (promised.reached k out last r)).sound.no_cycle;
-    cut = λ s c v is cut.
-        let acts = (promised.steps s c is).acts in
-        let way = cut.way in
-        subst IsSound (sym way.there) (acts.sound way.done way.front.rest (sym (acts.one cut.acts cut.are) ∙ way.front.both));
+    cut = cut-sound;
     duos = λ k out last d r e.
         let is = (promised.duo.reached k out last d r e).reached in
         record { in_order = promised.duo.in_order d is; owned = promised.duo.owned d is };
@@ -37,8 +48,9 @@ module _ (a : AcceptedText) (promised : IsPromised a) where
   lines-of : (s next : SessionState) (c : Command) (printed : List Piece) → IsNext a s c → Does s c printed next → AreLinesTrue a.network s c printed next
   lines-of s next c printed is does =
       let step = promised.steps s c is in
-      let one = step.done.one printed next does in
-      subst (λ o. AreLinesTrue a.network s c o next) (sym one.0) (subst (AreLinesTrue a.network s c step.done.out) (sym one.1) step.lines)
+      let same = step.done.one does.deed does.is in
+      let lines = subst (λ (d : Deed). AreLinesTrue a.network s c d.output (session_after s d)) (sym same) step.lines in
+      subst (λ o. AreLinesTrue a.network s c o next) (sym does.prints) (subst (AreLinesTrue a.network s c does.deed.output) (sym does.leaves) lines)
 
   -- injections are left after it
   left-after : (s next : SessionState) (c : Command) (printed : List Piece) → InjectionsAreLeft a → IsNext a s c → Does s c printed next → next.world.injected < last_count

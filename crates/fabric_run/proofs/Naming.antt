@@ -7,11 +7,11 @@ use Rattle.net_defs.specs.declared.vertex.Cable.{Cable}
 use Rattle.net_defs.specs.Network.{Network, NamedSwitch, ports_of}
 use Rattle.world_defs.specs.World.{fabric_of}
 use Rattle.run_defs.specs.declared.command.Command.{Command}
-use Rattle.run_defs.specs.declared.command.Command.TheVariants.{Walk, Map, Circuit, Routes, Install, Begin, Close, Poll, Tokens, Provide, Send, Plan, Step, Settle, Finish, Duo, Pull, Plug, Revoke, Broken}
+use Rattle.run_defs.specs.declared.command.Command.TheVariants.{Plan, Step, Pull, Plug}
 use Rattle.run_defs.specs.declared.command.PlanKind.{PlanKind}
-use Rattle.run_defs.specs.declared.command.PlanKind.TheVariants.{Lose as LosePlan, Repeat as RepeatPlan, Hold as HoldPlan, Flip as FlipPlan, Pull as PullPlan}
+use Rattle.run_defs.specs.declared.command.PlanKind.TheVariants.{Pull as PullPlan}
 use Rattle.run_defs.specs.declared.command.StepLine.{StepLine}
-use Rattle.run_defs.specs.declared.command.StepLine.TheVariants.{Inject, GiveUp, Advance, Lose, Repeat, Hold, Reset, Flip, Expire, Replay}
+use Rattle.run_defs.specs.declared.command.StepLine.TheVariants.{Advance, Lose, Repeat, Hold, Reset, Flip}
 use Rattle.run_defs.specs.declared.figure.Figure.{Figure}
 use Rattle.run_defs.specs.declared.line.Line.TheVariants.{GenHead}
 use Rattle.run_defs.specs.LineText.{line_text, output_text}
@@ -56,45 +56,24 @@ module _ (hosts : List (List ℕ)) (switches : List NamedSwitch) (xs ys : List C
       by (Switch s) is = is
 
   step-same : (line : StepLine) → IsStepOf with_xs line → IsStepOf with_ys line
-  step-same (Inject h) is = is
-  step-same (GiveUp h) is = is
   step-same (Advance e) is = end-same e is
   step-same (Lose e) is = end-same e is
   step-same (Repeat e) is = end-same e is
   step-same (Hold e) is = end-same e is
   step-same (Reset e) is = end-same e is
   step-same (Flip e bit pattern) is = (end-same e is.0, is.1)
-  step-same (Expire h peer) is = is
-  step-same (Replay serial) is = is
+  step-same _ is = is
 
   plan-same : (kind : PlanKind) → IsPlanned with_xs kind → IsPlanned with_ys kind
-  plan-same LosePlan is = is
-  plan-same RepeatPlan is = is
-  plan-same HoldPlan is = is
-  plan-same (FlipPlan bit pattern) is = is
   plan-same (PullPlan at) is = end-same at is
+  plan-same _ is = is
 
   command-same : (c : Command) → IsCommandOf with_xs c → IsCommandOf with_ys c
-  command-same (Walk h turns) is = is
-  command-same (Map h depth tries) is = is
-  command-same (Circuit h depth) is = is
-  command-same Routes is = is
-  command-same (Install tries) is = is
-  command-same (Begin h port sends recvs) is = is
-  command-same (Close h port) is = is
-  command-same (Poll h port) is = is
-  command-same (Tokens h port) is = is
-  command-same (Provide h port size prio) is = is
-  command-same (Send h port dest dport prio len seed) is = is
   command-same (Plan ahead kind) is = (is.0, plan-same kind is.1)
   command-same (Step line) is = step-same line is
-  command-same Settle is = is
-  command-same Finish is = is
-  command-same (Duo e) is = is
   command-same (Pull at) is = end-same at is
   command-same (Plug a b) is = (end-same a is.0, end-same b is.1)
-  command-same Revoke is = is
-  command-same Broken is = is
+  command-same _ is = is
 
 -- a command of a text is one over the fabric as it stands
 pub command-named : (n : Network) (s : SessionState) (c : Command) → HasVerticesOf n s → IsCommandOf n c → IsCommandOf (fabric_of s.world) c

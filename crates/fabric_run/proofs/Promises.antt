@@ -14,6 +14,7 @@ use Rattle.run_defs.specs.declared.command.Command.{Command}
 use Rattle.run_defs.specs.declared.command.Command.TheVariants.{Map}
 use Rattle.run_defs.specs.declared.line.MapWords.TheVariants.{Complete}
 use Rattle.run_defs.specs.Script.{script_reading}
+use Rattle.run_defs.specs.Deed.{session_after}
 use Rattle.run_defs.specs.Session.{SessionState}
 use Rattle.run_defs.specs.Headline.{IsCommandOf}
 use Rattle.fab_script.specs.Ranges.{IsCommandOf as IsSaid}
@@ -28,7 +29,7 @@ use Rattle.seen_laws.proofs.Fronts.{polled-front}
 use Rattle.return_laws.proofs.Returned.{events-of_tokens, polls-of_tokens}
 use Rattle.promise_laws.proofs.Said.{said-command, said-act}
 use Rattle.promise_laws.specs.Existence.{HasDone, HasRun}
-use Rattle.promise_laws.proofs.Acting.{commands_have_sound_acts}
+use Rattle.promise_laws.proofs.Acting.{deeds_are_single_acts}
 use Rattle.promise_laws.proofs.ReceivedLines.{runs-receive_as_sent}
 use Rattle.promise_laws.proofs.Running.{each_command_is_done, run_exists}
 use Rattle.input_texts.specs.Reading.{AcceptedText, reading_from, reading}
@@ -99,8 +100,8 @@ text_promised text a e =
           let done : HasDone s c = each_command_is_done n (take is.count cs) is.printed s c o.fabric (acts is.count) (said-act n c (says is.count c is.there)) is.run in
           record {
             done = done;
-            acts = commands_have_sound_acts n (take is.count cs) is.printed done.out s done.next c o.fabric (acts is.count) (said-act n c (says is.count c is.there)) is.run done.does;
-            lines = lines-true n (take is.count cs) is.printed s o.fabric o.named (first is.count) is.run c done.out done.next (says is.count c is.there) done.does;
+            acts = deeds_are_single_acts n (take is.count cs) is.printed s c done.deed o.fabric (acts is.count) (said-act n c (says is.count c is.there)) is.run done.is;
+            lines = lines-true n (take is.count cs) is.printed s o.fabric o.named (first is.count) is.run c done.deed.output (session_after s done.deed) (says is.count c is.there) (record { deed = done.deed; is = done.is; prints = refl; leaves = refl });
           };
       one_map = λ s t host m k p q same. complete_maps_are_one n (take p.is_next.count cs) (take q.is_next.count cs) host m k o.fabric (after s host m p) (after t host k q) same;
       reached = λ k out last r. run_is_reached n (take k cs) out last o.fabric (acts k) r;

@@ -1,5 +1,5 @@
 -- What the lines of a command say is true, in the session that a run of commands over a fabric led to.
-use Rattle.std.proofs.Common.{◌≡◌, ◌<◌, ◌≤◌, ◌-◌, ℕ, Bool, true, false, List, [], ◌∷◌, ◌++◌, length, Option, Some, None, Ok, refl, sym, ap, subst, ◌∙◌, arith, append_assoc, if◌then◌else◌}
+use Rattle.std.proofs.Common.{◌≡◌, ◌<◌, ◌≤◌, ◌-◌, ℕ, Bool, true, false, List, [], ◌∷◌, ◌++◌, length, Option, Some, None, option_map, Ok, refl, sym, ap, subst, ◌∙◌, arith, append_assoc, if◌then◌else◌}
 use Rattle.std.specs.List.{AllByRecursion}
 use Rattle.net_defs.specs.declared.vertex.End.{End}
 use Rattle.net_defs.specs.Network.{Network, IsFabric}
@@ -11,13 +11,13 @@ use Rattle.link_defs.specs.Links.{is_idle}
 use Rattle.journal_defs.specs.declared.entry.Entry.{Entry}
 use Rattle.circ_defs.specs.CircuitMap.{IsCircuitMap}
 use Rattle.circ_map_laws.proofs.Numbering.{circuit_map_is_core}
-use Rattle.duo_defs.specs.declared.event.DuoEvent.TheVariants.{Send as DuoSend, Provide as DuoProvide, Emit, Deliver, Expire as DuoExpire, Poll as DuoPoll, Restart}
+use Rattle.duo_defs.specs.declared.event.DuoEvent.TheVariants.{Poll as DuoPoll}
 use Rattle.world_defs.specs.World.{WorldState, fabric_of, last_count}
 use Rattle.world_defs.specs.Settle.{unacknowledged_in}
 use Rattle.world_defs.specs.Logs.{settle}
 use Rattle.settle_laws.specs.Premises.{CanSettle}
 use Rattle.run_defs.specs.declared.command.Command.{Command}
-use Rattle.run_defs.specs.declared.command.Command.TheVariants.{Walk, Map, Circuit, Routes, Install, Begin, Close, Poll, Tokens, Provide, Send, Plan, Step, Settle, Finish, Duo, Pull, Plug, Revoke, Broken}
+use Rattle.run_defs.specs.declared.command.Command.TheVariants.{Map, Circuit, Routes, Install, Settle, Duo, Pull, Plug, Revoke}
 use Rattle.run_defs.specs.declared.line.Line.{Line}
 use Rattle.run_defs.specs.declared.line.Line.TheVariants.{Map as MapLine, MapBusy, Circuit as CircuitLine, Settle as SettleLine}
 use Rattle.run_defs.specs.declared.line.MapWords.{MapWords}
@@ -26,11 +26,13 @@ use Rattle.run_defs.specs.Circuit.{IsCircuitTold}
 use Rattle.run_defs.specs.Circuit.IsCircuitTold.{whole, too_many_nodes}
 use Rattle.run_defs.specs.Mapped.{IsMapped}
 use Rattle.run_defs.specs.LineText.{map_text}
-use Rattle.run_defs.specs.Outcome.{Outcome, outcome, says_only}
+use Rattle.run_defs.specs.Deed.{says}
+use Rattle.run_defs.specs.Outcome.{Outcome, seen, outcome}
 use Rattle.run_defs.specs.Output.{Piece, OneLine, MapLines}
 use Rattle.run_defs.specs.Session.{SessionState}
 use Rattle.run_defs.specs.Run.{Does, IsRun, map_pieces}
-use Rattle.run_defs.specs.Run.Does.{determined, maps, circuits, routes}
+use Rattle.run_defs.proofs.Doing.{Doing, doing}
+use Rattle.run_defs.proofs.Doing.Doing.{determined, maps, circuits, routes}
 use Rattle.run_defs.specs.Headline.{IsCommandOf, HasPrinted}
 use Rattle.map_canon.specs.Reading.{map_reading}
 use Rattle.fabric_file.specs.Reading.{AreNamed}
@@ -63,15 +65,15 @@ use Rattle.fabric_run.specs.Lines.{WasStruck, IsMapTrue, IsMapTold, IsCircuitRig
 use Rattle.fabric_run.proofs.Naming.{command-named}
 
 -- a map of idle links that must say complete prints so, and then its lines
-does-print : {s next : SessionState} {c : Command} {out : List Piece} → (host depth tries : ℕ) → c ≡ Map host depth tries → is_idle s.world.links ≡ true
+print-so : {s next : SessionState} {c : Command} {out : List Piece} → (host depth tries : ℕ) → c ≡ Map host depth tries → is_idle s.world.links ≡ true
     → ((j : List Entry) (m : NetMap) (words : MapWords) → IsMapped host depth tries s.world next.world j m words → words ≡ Complete)
-    → Does s c out next → (m : NetMap) × HasPrinted out host m
-does-print {s = s} {next = next} {out = out} host depth tries same idle says (determined e) =
-    let none : outcome s (Map host depth tries) ≡ None = ap (λ b. if b then None else Some (says_only s (MapBusy host ∷ []))) idle in
+    → Doing s c out next → (m : NetMap) × HasPrinted out host m
+print-so {s = s} {next = next} {out = out} host depth tries same idle says_so (determined e) =
+    let none : outcome s (Map host depth tries) ≡ None = ap (λ b. option_map (seen s) (if b then None else Some (says (MapBusy host ∷ [])))) idle in
     let got : Outcome = record { output = out; after = next } in
     let bad : None ≡ Some got = sym none ∙ sym (ap (outcome s) same) ∙ e in
     cc
-does-print {s = s} {next = next} {out = out} host depth tries same idle says (maps {host = h} {depth = d} {tries = t} after j m words none made printed left) =
+print-so {s = s} {next = next} {out = out} host depth tries same idle says_so (maps {host = h} {depth = d} {tries = t} after j m words calm made printed left) =
     let at : h ≡ host = cc in
     let deep : d ≡ depth = cc in
     let tried : t ≡ tries = cc in
@@ -81,7 +83,7 @@ does-print {s = s} {next = next} {out = out} host depth tries same idle says (ma
     (subst (λ k. IsMapped host depth k s.world after j m words) tried
     (subst (λ k. IsMapped host k t s.world after j m words) deep
     (subst (λ k. IsMapped k d t s.world after j m words) at made))) in
-    let word : words ≡ Complete = says j m words here in
+    let word : words ≡ Complete = says_so j m words here in
     let packets : ℕ = after.injected - s.world.injected in (
       m,
       record {
@@ -92,17 +94,17 @@ does-print {s = s} {next = next} {out = out} host depth tries same idle says (ma
         there = printed ∙ ap (λ k. OneLine (MapLine k words (length j) packets) ∷ map_pieces words m) at ∙ ap (λ x. OneLine (MapLine host x (length j) packets) ∷ map_pieces x m) word;
       },
     )
-does-print {s = s} host depth tries same idle says (circuits told left) = cc
-does-print {s = s} host depth tries same idle says (routes l found complete are printed left) = cc
+print-so {s = s} host depth tries same idle says_so (circuits told left) = cc
+print-so {s = s} host depth tries same idle says_so (routes l found complete are printed left) = cc
 
 -- what a determined command prints
 abbrev output-of : Option Outcome → List Piece
 output-of None = []
 output-of (Some o) = o.output
 
-does-doubt : {s next : SessionState} {c : Command} {out : List Piece} → (n : Network) (host depth tries drowned asks packets : ℕ) (rest : List Piece) → IsCommandOf n c → IsSessionOf n s → c ≡ Map host depth tries → 1 ≤ tries
-    → out ≡ OneLine (MapLine host (Doubtful drowned) asks packets) ∷ rest → next.world.injected < last_count → Does s c out next → WasStruck s.world next.world
-does-doubt {s = s} {next = next} {out = out} n host depth tries drowned asks packets rest of_n session same some says left (determined e) = by (is_idle s.world.links) refl
+doubt-so : {s next : SessionState} {c : Command} {out : List Piece} → (n : Network) (host depth tries drowned asks packets : ℕ) (rest : List Piece) → IsCommandOf n c → IsSessionOf n s → c ≡ Map host depth tries → 1 ≤ tries
+    → out ≡ OneLine (MapLine host (Doubtful drowned) asks packets) ∷ rest → next.world.injected < last_count → Doing s c out next → WasStruck s.world next.world
+doubt-so {s = s} {next = next} {out = out} n host depth tries drowned asks packets rest of_n session same some says_so left (determined e) = by (is_idle s.world.links) refl
   where
     got : Outcome
     got = record { output = out; after = next }
@@ -112,22 +114,22 @@ does-doubt {s = s} {next = next} {out = out} n host depth tries drowned asks pac
 
     by : (idle : Bool) → is_idle s.world.links ≡ idle → WasStruck s.world next.world
     by true i =
-        let none : outcome s (Map host depth tries) ≡ None = ap (λ b. if b then None else Some (says_only s (MapBusy host ∷ []))) i in
+        let none : outcome s (Map host depth tries) ≡ None = ap (λ b. option_map (seen s) (if b then None else Some (says (MapBusy host ∷ [])))) i in
         let bad : None ≡ Some got = sym none ∙ now in
         cc
     by false i =
-        let busy : outcome s (Map host depth tries) ≡ Some (says_only s (MapBusy host ∷ [])) = ap (λ b. if b then None else Some (says_only s (MapBusy host ∷ []))) i in
-        let bad : OneLine (MapBusy host) ∷ [] ≡ OneLine (MapLine host (Doubtful drowned) asks packets) ∷ rest = ap output-of (sym busy ∙ now) ∙ says in
+        let busy : outcome s (Map host depth tries) ≡ Some (seen s (says (MapBusy host ∷ []))) = ap (λ b. option_map (seen s) (if b then None else Some (says (MapBusy host ∷ [])))) i in
+        let bad : OneLine (MapBusy host) ∷ [] ≡ OneLine (MapLine host (Doubtful drowned) asks packets) ∷ rest = ap output-of (sym busy ∙ now) ∙ says_so in
         cc
-does-doubt {s = s} {next = next} n host depth tries drowned asks packets rest of_n session same some says left (maps {host = h} {depth = d} {tries = t} after j m words none made printed last) =
+doubt-so {s = s} {next = next} n host depth tries drowned asks packets rest of_n session same some says_so left (maps {host = h} {depth = d} {tries = t} after j m words calm made printed last) =
     let tried : t ≡ tries = cc in
     let world : after ≡ next.world = sym (ap (λ (x : SessionState). x.world) last) in
-    let both : OneLine (MapLine h words (length j) (after.injected - s.world.injected)) ∷ map_pieces words m ≡ OneLine (MapLine host (Doubtful drowned) asks packets) ∷ rest = sym printed ∙ says in
+    let both : OneLine (MapLine h words (length j) (after.injected - s.world.injected)) ∷ map_pieces words m ≡ OneLine (MapLine host (Doubtful drowned) asks packets) ∷ rest = sym printed ∙ says_so in
     let called : words ≡ Doubtful drowned = cc in
     let here : IsMapped h d t s.world next.world j m (Doubtful drowned) = subst (λ w. IsMapped h d t s.world w j m (Doubtful drowned)) world (subst (λ x. IsMapped h d t s.world after j m x) called made) in
-    doubtful_was_harmed h d t drowned s.world next.world j m (can-map-now n s h d t of_n session none) here (omega (arith, some, tried)) left
-does-doubt n host depth tries drowned asks packets rest of_n session same some says left (circuits told last) = cc
-does-doubt n host depth tries drowned asks packets rest of_n session same some says left (routes l found complete are printed last) = cc
+    doubtful_was_harmed h d t drowned s.world next.world j m (can-map-now n s h d t of_n session calm) here (omega (arith, some, tried)) left
+doubt-so n host depth tries drowned asks packets rest of_n session same some says_so left (circuits told last) = cc
+doubt-so n host depth tries drowned asks packets rest of_n session same some says_so left (routes l found complete are printed last) = cc
 
 -- a settle with tokens enough before it
 settle-leaves-none : (s next : SessionState) (rounds resets unacked : ℕ) → CanSettle s.world → IsSettledLine s next rounds resets unacked → next.world.injected < last_count → HasEnough s.world → HasPaths s.world next.world → unacked ≡ 0
@@ -143,9 +145,9 @@ session-vertices : (n : Network) (s : SessionState) → IsSessionOf n s → HasV
 session-vertices n s is = (ap (λ (x : Network). x.hosts) is.first, ap (λ (x : Network). x.switches) is.first)
 
 -- a map of circuit links that a command prints
-does-circuit : {s next : SessionState} {out : List Piece} → (host depth : ℕ) → Does s (Circuit host depth) out next → IsCircuitTold (fabric_of s.world) host depth out
-does-circuit host depth (determined e) = cc
-does-circuit host depth (circuits told left) = told
+circuit-so : {s next : SessionState} {out : List Piece} → (host depth : ℕ) → Doing s (Circuit host depth) out next → IsCircuitTold (fabric_of s.world) host depth out
+circuit-so host depth (determined e) = cc
+circuit-so host depth (circuits told left) = told
 
 circuit-map : (n : Network) (host depth asks : ℕ) (m : NetMap) (out : List Piece) → out ≡ OneLine (CircuitLine host depth asks) ∷ MapLines m ∷ [] → IsCircuitTold n host depth out → (j : List Entry) × IsCircuitMap n host depth j m
 circuit-map n host depth asks m out same (whole j k growing kept is printed) =
@@ -203,21 +205,21 @@ module _ (n : Network) (cs : List Command) (before : List Piece) (s : SessionSta
         part = λ e. part-true next host depth tries asks packets m is (so Complete e);
         marks = λ e there v low. marks_are_right n cs host m fabric (printed-after next host depth tries Complete asks packets m is (so Complete e)) there v low;
         doubt = λ drowned e left.
-            does-doubt n host depth tries drowned asks packets (MapLines m ∷ []) (said-command n (Map host depth tries) is) session refl is.2.0 (same ∙ ap out e) left does;
+            doubt-so n host depth tries drowned asks packets (MapLines m ∷ []) (said-command n (Map host depth tries) is) session refl is.2.0 (same ∙ ap out e) left (doing does);
       }
 
   map-told : (next : SessionState) (host depth tries : ℕ) (printed : List Piece) → IsSaid n (Map host depth tries) → Does s (Map host depth tries) printed next → IsMapTold n s next host depth printed
   map-told next host depth tries printed is does = record {
     shown = λ words asks packets m same. map-true next host depth tries printed words asks packets m is does same;
     deep = λ quiet enough.
-        does-print host depth tries refl quiet.idle
-        (λ j m words made. (always_promised n cs fabric).deep before s host depth tries next.world j m words fabric commands ran (said-command n (Map host depth tries) is) made quiet is.2.0 is.2.1 enough) does;
+        print-so host depth tries refl quiet.idle
+        (λ j m words made. (always_promised n cs fabric).deep before s host depth tries next.world j m words fabric commands ran (said-command n (Map host depth tries) is) made quiet is.2.0 is.2.1 enough) (doing does);
   }
 
   circuit-right : (next : SessionState) (host depth : ℕ) (printed : List Piece) → IsSaid n (Circuit host depth) → Does s (Circuit host depth) printed next → IsCircuitRight n (fabric_of s.world) host depth printed
   circuit-right next host depth printed is does =
       let now : Network = fabric_of s.world in
-      let told : IsCircuitTold now host depth printed = does-circuit host depth does in
+      let told : IsCircuitTold now host depth printed = circuit-so host depth (doing does) in
       record {
         told = told;
         shown = λ asks m same.
@@ -255,20 +257,4 @@ module _ (n : Network) (cs : List Command) (before : List Piece) (s : SessionSta
   lines-true (Plug p q) printed next is does = plug-told next p q printed is does
   lines-true Revoke printed next is does = revoked_line-true n s next printed (run_is_reached n cs before s fabric acts ran) does
   lines-true (Duo (DuoPoll x)) printed next is does = poll-right next x printed does
-  lines-true (Duo (DuoSend x len seed)) printed next is does = tt
-  lines-true (Duo (DuoProvide x size)) printed next is does = tt
-  lines-true (Duo (Emit x)) printed next is does = tt
-  lines-true (Duo (Deliver place)) printed next is does = tt
-  lines-true (Duo (DuoExpire x)) printed next is does = tt
-  lines-true (Duo (Restart x)) printed next is does = tt
-  lines-true (Walk host walk) printed next is does = tt
-  lines-true (Begin h port sends recvs) printed next is does = tt
-  lines-true (Close h port) printed next is does = tt
-  lines-true (Poll h port) printed next is does = tt
-  lines-true (Tokens h port) printed next is does = tt
-  lines-true (Provide h port size prio) printed next is does = tt
-  lines-true (Send h port dest dport prio len seed) printed next is does = tt
-  lines-true (Plan ahead kind) printed next is does = tt
-  lines-true (Step line) printed next is does = tt
-  lines-true Finish printed next is does = tt
-  lines-true Broken printed next is does = tt
+  lines-true _ printed next is does = tt

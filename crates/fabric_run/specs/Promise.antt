@@ -7,6 +7,7 @@ use Rattle.act_defs.specs.Acts.{IsReached}
 use Rattle.run_defs.specs.declared.command.Command.{Command}
 use Rattle.run_defs.specs.declared.command.Command.TheVariants.{Map}
 use Rattle.run_defs.specs.declared.line.MapWords.TheVariants.{Complete}
+use Rattle.run_defs.specs.Deed.{session_after}
 use Rattle.run_defs.specs.Output.{Piece}
 use Rattle.run_defs.specs.Session.{SessionState}
 use Rattle.run_defs.specs.Run.{IsRun}
@@ -14,7 +15,7 @@ use Rattle.print_laws.specs.Shown.{PrintsMap}
 use Rattle.message_laws.specs.Filling.{HasTiedParts}
 use Rattle.seen_laws.specs.Seen.{PolledIsFrontOfAccepted}
 use Rattle.return_laws.specs.Noted.{SentEventsAreOfTokens, PolledTokensAreOfMessages}
-use Rattle.promise_laws.specs.CommandActs.{HasSoundActs}
+use Rattle.promise_laws.specs.CommandActs.{AreSingleActs}
 use Rattle.promise_laws.specs.Existence.{HasDone, HasRun}
 use Rattle.promise_laws.specs.ReceivedLines.{AreReceivedAsSent}
 use Rattle.input_texts.specs.Reading.{AcceptedText}
@@ -22,12 +23,12 @@ use Rattle.fabric_run.specs.Duos.{IsDuoPromised}
 use Rattle.fabric_run.specs.Lines.{AreLinesTrue}
 use Rattle.fabric_run.specs.Steps.{IsNext}
 
--- What is promised of a command in the session before it: it does one thing, its acts may happen, each of them one
+-- What is promised of a command in the session before it: it is one deed, whose acts may happen, each of them one
 -- action of one host, of one channel or of one cable, and what its lines say is true.
 pub record IsStepRight (a : AcceptedText) (s : SessionState) (c : Command) : Type 0 where
   pub done : HasDone s c
-  pub acts : HasSoundActs s c done.next
-  pub lines : AreLinesTrue a.network s c done.out done.next
+  pub acts : AreSingleActs s.world done.deed.acts
+  pub lines : AreLinesTrue a.network s c done.deed.output (session_after s done.deed)
 
 -- so it is of each command of the text
 abbrev pub StepsAreRight : AcceptedText → Type 0
@@ -70,8 +71,8 @@ ReceivedLinesAreOfSends a = (count : ℕ) (out : List Piece) (last : SessionStat
     → IsRun a.network (take count a.commands) out last
     → AreReceivedAsSent a.network (take count a.commands) out last.world
 
--- The promise of an accepted text. Its commands have a run, and one, whose text is the report. Each command does one
--- thing, by acts that may happen, and what its lines say is true; complete maps of one host are one while the fabric
+-- The promise of an accepted text. Its commands have a run, and one, whose text is the report. Each command is one deed,
+-- of acts that may happen, and what its lines say is true; complete maps of one host are one while the fabric
 -- stands alike. Each world after first commands, and after each prefix of the acts of the next one, is reached; each
 -- world that is reached is sound. What polls handed out is a prefix of what sends were accepted with, and what the
 -- lines `received` show, of what the `send` lines with a token handed in; a sent event that waits has the bytes of the

@@ -13,25 +13,25 @@ use Rattle.journal_defs.proofs.Members.{IsMember}
 use Rattle.map_defs.specs.NetMap.{host_of_vertex, hosts_of}
 use Rattle.map_defs.specs.Sameness.{IsMapOfPart, address_of}
 use Rattle.map_laws.proofs.Listed.{member-host}
-use Rattle.world_defs.specs.declared.event.Event.{Event}
-use Rattle.world_defs.specs.declared.effect.Effect.{Effect}
 use Rattle.world_defs.specs.Node.{NodeState, new_node}
 use Rattle.world_defs.specs.World.{WorldState, host_count, last_count, node_at, addresses, adopted_by, keeps_epoch}
-use Rattle.world_defs.specs.Step.{step}
 use Rattle.world_defs.proofs.LogViews.{installed}
 use Rattle.world_defs.specs.Logs as log
 use Rattle.world_defs.specs.Log.{Log, came_to}
 use Rattle.run_defs.specs.declared.command.Command.{Command}
-use Rattle.run_defs.specs.declared.command.Command.TheVariants.{Walk, Map, Circuit, Routes, Install, Begin as BeginCommand, Close as CloseCommand, Poll as PollCommand, Tokens, Provide as ProvideCommand, Send as SendCommand, Plan, Step, Settle, Finish, Duo, Pull, Plug, Revoke, Broken}
-use Rattle.run_defs.specs.declared.line.Line.TheVariants.{MapBusy, Installed, InstallRefused}
+use Rattle.run_defs.specs.declared.command.Command.TheVariants.{Map, Circuit, Install, Plan}
+use Rattle.run_defs.specs.declared.line.Line.TheVariants.{Installed, InstallRefused}
 use Rattle.run_defs.specs.declared.line.InstallCause.{InstallCause}
 use Rattle.run_defs.specs.declared.line.InstallCause.TheVariants.{NoRoutes, Busy}
 use Rattle.run_defs.specs.Output.{Piece, OneLine, lines}
 use Rattle.run_defs.specs.Session.{SessionState, LastMap, LastRoutes, new_session, is_complete, complete_map}
-use Rattle.run_defs.specs.Outcome.{Outcome, says_only, event_of, stepped, step_or_idle, table_line, install_done, install_now, install, map_refused, routes_refused, outcome, set_of, may_install, refusal_cause}
+use Rattle.run_defs.specs.Deed.{says, session_after}
+use Rattle.run_defs.specs.Outcome.{Kind, kind_of, Outcome, table_line, installation, install_now, install, seen, outcome, set_of, may_install, refusal_cause}
 use Rattle.world_defs.specs.Table.{Adoption, ActiveTable, whole_table}
-use Rattle.run_defs.specs.Run.{Does, Runs}
-use Rattle.run_defs.specs.Run.Does.{determined, maps, circuits, routes}
+use Rattle.run_defs.specs.Run.{Runs}
+use Rattle.run_defs.proofs.Doing.{Doing, doing, does, acted-installation}
+use Rattle.run_defs.proofs.Doing.Doing.{determined, maps, circuits, routes}
+use Rattle.run_defs.proofs.ByKind.{IsLaw, by-kind, outcome-law}
 use Rattle.run_defs.specs.Run.Runs.{ended, goes_on}
 use Rattle.run_defs.specs.Headline.{IsCommandOf}
 use Rattle.act_defs.specs.Acts.{IsReached}
@@ -64,61 +64,20 @@ pub right-short : RightRoutesAreShort
 right-short n host m rs f low right are = least-all-short n host m _ rs f (host-there n host low) right are.least
 
 -- a determined command leaves the last map and the last routes
-abbrev LastIn : SessionState → Option Outcome → Type 0
-LastIn s None = Unit {0}
-LastIn s (Some o) = (o.after.last_map ≡ s.last_map) × (o.after.last_routes ≡ s.last_routes)
+abbrev KeepsLast : SessionState → SessionState → Type 0
+KeepsLast s next = (next.last_map ≡ s.last_map) × (next.last_routes ≡ s.last_routes)
 
-stepped-last : (s : SessionState) (r : Effect × WorldState) → LastIn s (Some (stepped s r))
-stepped-last s (x, w) = (refl, refl)
+last-law : (s : SessionState) (k : Kind) → IsLaw (λ d. KeepsLast s (session_after s d)) s k
+last-law s k = record {
+  reads = λ ls. (refl, refl);
+  happens = λ es ls are. (refl, refl);
+  plans = λ ahead fault is. (refl, refl);
+  installs = λ l tries is are may. (refl, refl);
+  restarts = λ e is. (refl, refl);
+}
 
-step-last : (s : SessionState) (o : Option Event) → LastIn s (Some (step_or_idle s o))
-step-last s None = (refl, refl)
-step-last s (Some e) = stepped-last s (step s.world e)
-
-done-last : (s : SessionState) (hosts : List ℕ) (r : Log ℕ) → LastIn s (Some (install_done s hosts r))
-done-last s hosts r = (refl, refl)
-
-install-last : (s : SessionState) (tries : ℕ) (o : Option LastRoutes) → LastIn s (Some (install s tries o))
-install-last s tries None = (refl, refl)
-install-last s tries (Some l) = by (not (is_idle s.world.links)) (not (may_install s.world l))
-  where
-    by : (busy other : Bool) → LastIn s (Some (if busy then says_only s (InstallRefused Busy ∷ []) else if other then says_only s (InstallRefused (refusal_cause s.world l) ∷ []) else install_now s l tries))
-    by true other = (refl, refl)
-    by false true = (refl, refl)
-    by false false = done-last s l.hosts (log.install (set_of s.world l) l.hosts tries (adopted_by s.world l.mapper l.routes))
-
-refused-last : (s : SessionState) (o : Option LastMap) → LastIn s (routes_refused s o)
-refused-last s None = (refl, refl)
-refused-last s (Some l) = tt
-
-busy-last : (s : SessionState) (host : ℕ) → LastIn s (map_refused s host)
-busy-last s host = by (is_idle s.world.links)
-  where
-    by : (idle : Bool) → LastIn s (if idle then None else Some (says_only s (MapBusy host ∷ [])))
-    by true = tt
-    by false = (refl, refl)
-
-outcome-last : (s : SessionState) (c : Command) → LastIn s (outcome s c)
-outcome-last s (Map host depth tries) = busy-last s host
-outcome-last s (Circuit host depth) = tt
-outcome-last s Routes = refused-last s (complete_map s.last_map)
-outcome-last s (Install tries) = install-last s tries s.last_routes
-outcome-last s (Step line) = step-last s (event_of s.world line)
-outcome-last s (Walk host walk) = (refl, refl)
-outcome-last s (BeginCommand h port sends recvs) = (refl, refl)
-outcome-last s (CloseCommand h port) = (refl, refl)
-outcome-last s (PollCommand h port) = (refl, refl)
-outcome-last s (Tokens h port) = (refl, refl)
-outcome-last s (ProvideCommand h port size prio) = (refl, refl)
-outcome-last s (SendCommand h port dest dport prio len seed) = (refl, refl)
-outcome-last s (Plan ahead kind) = (refl, refl)
-outcome-last s Settle = (refl, refl)
-outcome-last s Finish = (refl, refl)
-outcome-last s (Duo e) = (refl, refl)
-outcome-last s (Pull at) = (refl, refl)
-outcome-last s (Plug a b) = (refl, refl)
-outcome-last s Revoke = (refl, refl)
-outcome-last s Broken = (refl, refl)
+outcome-last : (s : SessionState) (c : Command) (o : Outcome) → outcome s c ≡ Some o → KeepsLast s o.after
+outcome-last s c o e = outcome-law (λ o. KeepsLast s o.after) s c o (by-kind (λ d. KeepsLast s (session_after s d)) s (kind_of c) (last-law s (kind_of c))) e
 
 -- A session that a run leads to.
 record IsLed (n : Network) (s : SessionState) : Type 0 where
@@ -180,14 +139,15 @@ command-of n (Circuit host depth) is = is
 command-of n (Plan ahead kind) is = is.1
 command-of n c is = tt
 
-does-last : {s next : SessionState} {c : Command} {out : List Piece} → (n : Network) → IsActOf n c → IsLed n s → Does s c out next → IsLast n next
-does-last {s = s} {next = next} {c = c} n of_n led (determined e) = let k = subst (LastIn s) e (outcome-last s c) in last-same n s next led (does-keep {s = s} {next = next} {c = c} n (command-of n c of_n) (determined e)).cables k.0 k.1
-does-last {s = s} {next = next} n of_n led (maps {host = host} {depth = depth} {tries = tries} after j m words none made printed left) =
+last-so : {s next : SessionState} {c : Command} {out : List Piece} → (n : Network) → IsActOf n c → IsLed n s → Doing s c out next → IsLast n next
+last-so {s = s} {next = next} {c = c} {out = out} n of_n led (determined e) =
+    let k = outcome-last s c (record { output = out; after = next }) e in last-same n s next led (does-keep {s = s} {next = next} {c = c} n (command-of n c of_n) (does (determined e))).cables k.0 k.1
+last-so {s = s} {next = next} n of_n led (maps {host = host} {depth = depth} {tries = tries} after j m words idle made printed left) =
     let r : LastMap = record { mapper = host; words = words; made = m; began = s.world.links.cables.changes } in
     let k = (mapped-stays s.world after host tries j made.led).cables in
     subst (IsLast n) (sym left) (record { mapper = λ l e. subst (λ (x : LastMap). x.mapper < length n.hosts) (same-map r l e) of_n.0; set = λ l e. set-past s.world after l k (led.set l e) })
-does-last {s = s} {next = next} n of_n led (circuits told left) = last-same n s next led (subst (λ (x : SessionState). CablesKept s.world x.world) (sym left) (stays-same s.world).cables) (ap (λ (x : SessionState). x.last_map) left) (ap (λ (x : SessionState). x.last_routes) left)
-does-last {s = s} {next = next} n of_n led (routes l found complete are printed left) =
+last-so {s = s} {next = next} n of_n led (circuits told left) = last-same n s next led (subst (λ (x : SessionState). CablesKept s.world x.world) (sym left) (stays-same s.world).cables) (ap (λ (x : SessionState). x.last_map) left) (ap (λ (x : SessionState). x.last_routes) left)
+last-so {s = s} {next = next} n of_n led (routes l found complete are printed left) =
     let k = led.holds.complete l complete in
     let hosts : List ℕ = filter (λ h. list_any (nat_eq h) (hosts_of l.made.vertices)) (addresses s.world) in
     let r : LastRoutes = record { mapper = l.mapper; hosts = hosts; routes = found; began = l.began } in
@@ -206,7 +166,7 @@ runs-led : {s last : SessionState} {cs : List Command} {out : List Piece} → (n
 runs-led n all led ended = led
 runs-led {s = s} n all led (goes_on {next = next} {c = c} d r e) =
     let of_n = command-of n c all.0 in
-    let on = does-last n all.0 led d in
+    let on = last-so n all.0 led (doing d) in
     let now : IsLed n next = record { session = does-stays n of_n led.session d; holds = does-hold n of_n led.session led.holds d; mapper = on.mapper; set = on.set } in
     runs-led n all.1 now r
 
@@ -289,39 +249,42 @@ record Prints (s next : SessionState) (tries acked total : ℕ) : Type 0 where
 abbrev PrintsIn : SessionState → ℕ → ℕ → ℕ → List Piece → Option Outcome → SessionState → Type 0
 PrintsIn s tries acked total rest o next = o ≡ Some (record { output = OneLine (Installed acked total) ∷ rest; after = next }) → Prints s next tries acked total
 
-done-prints : (s next : SessionState) (tries acked total : ℕ) (rest : List Piece) (l : LastRoutes) (r : Log ℕ) → s.last_routes ≡ Some l → is_idle s.world.links ≡ true → may_install s.world l ≡ true → installed (set_of s.world l) l.hosts tries (adopted_by s.world l.mapper l.routes) ≡ came_to r → PrintsIn s tries acked total rest (Some (install_done s l.hosts r)) next
-done-prints s next tries acked total rest l r are idle same is e =
+done-prints : (s next : SessionState) (tries acked total : ℕ) (rest : List Piece) (l : LastRoutes) → s.last_routes ≡ Some l → is_idle s.world.links ≡ true → may_install s.world l ≡ true → PrintsIn s tries acked total rest (Some (seen s (install_now s.world l tries))) next
+done-prints s next tries acked total rest l are idle same e =
+    let r : Log ℕ = installation s.world l tries in
     let k : ℕ = r.value in
     let w : WorldState = r.world in
     let said : Outcome = record { output = OneLine (Installed acked total) ∷ rest; after = next } in
-    let o : install_done s l.hosts r ≡ said = same_Some (install_done s l.hosts r) said e in
+    let o : seen s (install_now s.world l tries) ≡ said = same_Some (seen s (install_now s.world l tries)) said e in
     let printed : OneLine (Installed k (length l.hosts)) ∷ lines (map (table_line w) l.hosts) ≡ OneLine (Installed acked total) ∷ rest = ap (λ (x : Outcome). x.output) o in
     let one : k ≡ acked = cc in
     let all : length l.hosts ≡ total = cc in
-    let after : w ≡ next.world = ap (λ (x : Outcome). x.after.world) o in
-    record { last = l; are = are; idle = idle; same = same; counted = is ∙ (λ i. (one i, after i)); all = sym all }
+    let after : w ≡ next.world = sym (acted-installation s.world l tries) ∙ ap (λ (x : Outcome). x.after.world) o in
+    record { last = l; are = are; idle = idle; same = same; counted = λ i. (one i, after i); all = sym all }
 
 -- a refusal is another line
-refusal-prints : (s next : SessionState) (tries acked total : ℕ) (rest : List Piece) (cause : InstallCause) → PrintsIn s tries acked total rest (Some (says_only s (InstallRefused cause ∷ []))) next
+refusal-prints : (s next : SessionState) (tries acked total : ℕ) (rest : List Piece) (cause : InstallCause) → PrintsIn s tries acked total rest (Some (seen s (says (InstallRefused cause ∷ [])))) next
 refusal-prints s next tries acked total rest cause e =
     let said : Outcome = record { output = OneLine (Installed acked total) ∷ rest; after = next } in
-    let o : says_only s (InstallRefused cause ∷ []) ≡ said = same_Some (says_only s (InstallRefused cause ∷ [])) said e in
+    let refused : Outcome = seen s (says (InstallRefused cause ∷ [])) in
+    let o : refused ≡ said = same_Some refused said e in
     let printed : OneLine (InstallRefused cause) ∷ [] ≡ OneLine (Installed acked total) ∷ rest = ap (λ (x : Outcome). x.output) o in
     absurd (no_line printed)
   where
     no_line : OneLine (InstallRefused cause) ∷ [] ≡ OneLine (Installed acked total) ∷ rest → ⊥
     no_line e = cc
 
-install-prints : (s next : SessionState) (tries acked total : ℕ) (rest : List Piece) (o : Option LastRoutes) → s.last_routes ≡ o → PrintsIn s tries acked total rest (Some (install s tries o)) next
+install-prints : (s next : SessionState) (tries acked total : ℕ) (rest : List Piece) (o : Option LastRoutes) → s.last_routes ≡ o → PrintsIn s tries acked total rest (Some (seen s (install s.world tries o))) next
 install-prints s next tries acked total rest None are e = refusal-prints s next tries acked total rest NoRoutes e
 install-prints s next tries acked total rest (Some l) are e = by (is_idle s.world.links) (may_install s.world l) refl refl e
   where
-    by : (idle may : Bool) → is_idle s.world.links ≡ idle → may_install s.world l ≡ may → PrintsIn s tries acked total rest (Some (if not idle then says_only s (InstallRefused Busy ∷ []) else if not may then says_only s (InstallRefused (refusal_cause s.world l) ∷ []) else install_now s l tries)) next
+    by : (idle may : Bool) → is_idle s.world.links ≡ idle → may_install s.world l ≡ may → PrintsIn s tries acked total rest (Some (seen s (if not idle then says (InstallRefused Busy ∷ []) else if not may then says (InstallRefused (refusal_cause s.world l) ∷ []) else install_now s.world l tries))) next
     by false other p q d = refusal-prints s next tries acked total rest Busy d
     by true false p q d = refusal-prints s next tries acked total rest (refusal_cause s.world l) d
-    by true true p q d =
-        let w : WorldState = adopted_by s.world l.mapper l.routes in
-        done-prints s next tries acked total rest l (log.install (set_of s.world l) l.hosts tries w) are p q refl d
+    by true true p q d = done-prints s next tries acked total rest l are p q d
+
+does-install : (s next : SessionState) (tries acked total : ℕ) (rest : List Piece) → Doing s (Install tries) (OneLine (Installed acked total) ∷ rest) next → Prints s next tries acked total
+does-install s next tries acked total rest (determined e) = install-prints s next tries acked total rest s.last_routes refl e
 
 -- a list that a test leaves as long as it is passes it
 filter-most : {X : Type 0} (p : X → Bool) (xs : List X) → length (filter p xs) ≤ length xs
@@ -385,5 +348,4 @@ line-so n commands out s next tries acked total f all r p =
     }
 
 pub line-true : InstalledLineIsTrue
-line-true n commands out rest s next tries acked total f all r (determined e) =
-    line-so n commands out s next tries acked total f all r (install-prints s next tries acked total rest s.last_routes refl e)
+line-true n commands out rest s next tries acked total f all r d = line-so n commands out s next tries acked total f all r (does-install s next tries acked total rest (doing d))

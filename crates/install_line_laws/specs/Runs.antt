@@ -66,8 +66,8 @@ RunCanInstall =
 pub record IsInstalledLine (s next : SessionState) (tries acked total : ℕ) : Type 0 where
   pub last : LastRoutes
   pub are : s.last_routes ≡ Some last
-  pub counted : acked ≡ (installation s last tries).value
-  pub after : next.world ≡ (installation s last tries).world
+  pub counted : acked ≡ (installation s.world last tries).value
+  pub after : next.world ≡ (installation s.world last tries).world
   pub all : total ≡ length last.hosts
   pub at_most : acked ≤ total
   pub tables : acked ≤ length (filter (has_table next.world) last.hosts)

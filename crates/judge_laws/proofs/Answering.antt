@@ -17,11 +17,10 @@ use Rattle.run_defs.specs.declared.line.Line.TheVariants.{Routes as RoutesLine, 
 use Rattle.run_defs.specs.LineText.{line_text, map_text, output_text}
 use Rattle.run_defs.specs.Output.{Piece, OneLine, MapLines, lines}
 use Rattle.run_defs.specs.Run.{route_line, rank_line}
-use Rattle.line_forms.specs.declared.line.MapSaid.TheVariants.{Complete, Doubtful, Shallow, Overgrown}
+use Rattle.line_forms.specs.declared.line.MapSaid.TheVariants.{Complete, Doubtful, Shallow}
 use Rattle.line_forms.specs.declared.line.ReportLine.{ReportLine}
-use Rattle.line_forms.specs.declared.line.ReportLine.TheVariants.{Walk, Map, MapBusy, Circuit, CircuitNodes, Routes, NoMap, Route, Rank, EndRoutes as EndRoutesSaid, Installed, Table as TableSaid, InstallRefused}
-use Rattle.line_forms.specs.declared.line.ReportLine.TheVariants.{Opened, Closed, Provided, Accepted, Returned, Received, NothingCame, CallRefused, Tokens, PlanAt, Step, Settle, Finish}
-use Rattle.line_forms.specs.declared.line.ReportLine.TheVariants.{Pull, Plug, Revoked, Broken as BrokenSaid, EndBroken as EndBrokenSaid, NoBroken as NoBrokenSaid}
+use Rattle.line_forms.specs.declared.line.ReportLine.TheVariants.{Map, Circuit, Routes, Installed}
+use Rattle.line_forms.specs.declared.line.ReportLine.TheVariants.{Broken as BrokenSaid, EndBroken as EndBrokenSaid, NoBroken as NoBrokenSaid}
 use Rattle.map_canon.specs.Reading.{map_part, map_reading}
 use Rattle.answer_defs.specs.Answer.{Answer, Alone, WithMap, WithRoutes, WithTables, WithBroken}
 use Rattle.judge_defs.specs.Form.{Known, Reads, may_answer, rank_lines, routes_block, table_lines, tables_of, tables_block, map_block, pair_in, broken_block, refused_block, block_of, answer_by, answer_from}
@@ -39,79 +38,24 @@ refusal-alone false p past n ls e = refl
 
 -- a line that is an answer alone
 block-alone : (number : ℕ) (r : ReportLine) (k : Known) (past : ℕ) (n : Network) (ls : List TextLine) → is_alone k.adopted r ≡ true → block_of number r k past n ls ≡ Ok (Alone r, ls)
-block-alone number Walk k past n ls e = refl
 block-alone number (Map h Complete) k past n ls e = absurd (true≢false (sym e))
 block-alone number (Map h Doubtful) k past n ls e = absurd (true≢false (sym e))
 block-alone number (Map h Shallow) k past n ls e = absurd (true≢false (sym e))
-block-alone number (Map h Overgrown) k past n ls e = refl
-block-alone number (MapBusy h) k past n ls e = refl
 block-alone number (Circuit h depth) k past n ls e = absurd (true≢false (sym e))
-block-alone number (CircuitNodes h) k past n ls e = refl
 block-alone number (Routes count) k past n ls e = absurd (true≢false (sym e))
-block-alone number NoMap k past n ls e = refl
-block-alone number (Route r) k past n ls e = refl
-block-alone number (Rank v p rank) k past n ls e = refl
-block-alone number EndRoutesSaid k past n ls e = refl
 block-alone number (Installed count) k past n ls e = absurd (true≢false (sym e))
-block-alone number (TableSaid h) k past n ls e = refl
-block-alone number InstallRefused k past n ls e = refl
-block-alone number (Opened a) k past n ls e = refl
-block-alone number (Closed a count) k past n ls e = refl
-block-alone number (Provided a token) k past n ls e = refl
-block-alone number (Accepted a token) k past n ls e = refl
-block-alone number (Returned a token) k past n ls e = refl
-block-alone number (Received l) k past n ls e = refl
-block-alone number (NothingCame a) k past n ls e = refl
-block-alone number (CallRefused call a) k past n ls e = refl
-block-alone number (Tokens l) k past n ls e = refl
-block-alone number PlanAt k past n ls e = refl
-block-alone number Step k past n ls e = refl
-block-alone number Settle k past n ls e = refl
-block-alone number Finish k past n ls e = refl
-block-alone number (Pull at done) k past n ls e = refl
-block-alone number (Plug a b done) k past n ls e = refl
-block-alone number Revoked k past n ls e = refl
 block-alone number (BrokenSaid from to) k past n ls e = absurd (true≢false (sym e))
 block-alone number EndBrokenSaid k past n ls e = absurd (true≢false (sym e))
 block-alone number NoBrokenSaid k past n ls e = refusal-alone k.adopted (pair_in n NoBrokenSaid) past n ls e
+block-alone number _ k past n ls e = refl
 
 -- a line with the lines of a map after it
 block-map : (number : ℕ) (r : ReportLine) (k : Known) (past : ℕ) (n : Network) (ls : List TextLine) → has_map r ≡ true → block_of number r k past n ls ≡ map_block r (map_part past n ls)
-block-map number Walk k past n ls e = absurd (true≢false (sym e))
 block-map number (Map h Complete) k past n ls e = refl
 block-map number (Map h Doubtful) k past n ls e = refl
 block-map number (Map h Shallow) k past n ls e = refl
-block-map number (Map h Overgrown) k past n ls e = absurd (true≢false (sym e))
-block-map number (MapBusy h) k past n ls e = absurd (true≢false (sym e))
 block-map number (Circuit h depth) k past n ls e = refl
-block-map number (CircuitNodes h) k past n ls e = absurd (true≢false (sym e))
-block-map number (Routes count) k past n ls e = absurd (true≢false (sym e))
-block-map number NoMap k past n ls e = absurd (true≢false (sym e))
-block-map number (Route r) k past n ls e = absurd (true≢false (sym e))
-block-map number (Rank v p rank) k past n ls e = absurd (true≢false (sym e))
-block-map number EndRoutesSaid k past n ls e = absurd (true≢false (sym e))
-block-map number (Installed count) k past n ls e = absurd (true≢false (sym e))
-block-map number (TableSaid h) k past n ls e = absurd (true≢false (sym e))
-block-map number InstallRefused k past n ls e = absurd (true≢false (sym e))
-block-map number (Opened a) k past n ls e = absurd (true≢false (sym e))
-block-map number (Closed a count) k past n ls e = absurd (true≢false (sym e))
-block-map number (Provided a token) k past n ls e = absurd (true≢false (sym e))
-block-map number (Accepted a token) k past n ls e = absurd (true≢false (sym e))
-block-map number (Returned a token) k past n ls e = absurd (true≢false (sym e))
-block-map number (Received l) k past n ls e = absurd (true≢false (sym e))
-block-map number (NothingCame a) k past n ls e = absurd (true≢false (sym e))
-block-map number (CallRefused call a) k past n ls e = absurd (true≢false (sym e))
-block-map number (Tokens l) k past n ls e = absurd (true≢false (sym e))
-block-map number PlanAt k past n ls e = absurd (true≢false (sym e))
-block-map number Step k past n ls e = absurd (true≢false (sym e))
-block-map number Settle k past n ls e = absurd (true≢false (sym e))
-block-map number Finish k past n ls e = absurd (true≢false (sym e))
-block-map number (Pull at done) k past n ls e = absurd (true≢false (sym e))
-block-map number (Plug a b done) k past n ls e = absurd (true≢false (sym e))
-block-map number Revoked k past n ls e = absurd (true≢false (sym e))
-block-map number (BrokenSaid from to) k past n ls e = absurd (true≢false (sym e))
-block-map number EndBrokenSaid k past n ls e = absurd (true≢false (sym e))
-block-map number NoBrokenSaid k past n ls e = absurd (true≢false (sym e))
+block-map number _ k past n ls e = absurd (true≢false (sym e))
 
 module _ (n : Network) (is : IsFabric n) (good : AreNamed n) (k : Known) (past : ℕ) where
   -- after its first line an answer is read by the block of that line

@@ -19,7 +19,7 @@ use Rattle.install_laws.proofs.Worlds.{event-set}
 use Rattle.mapping_laws.specs.Runs.{IsSessionOf}
 use Rattle.mapping_laws.proofs.Sessions.{can-map-now, run_keeps_world}
 use Rattle.mapping_laws.proofs.Made.{mapping_keeps, made_map_is_right}
-use Rattle.mapping_laws.proofs.Holding.{run_holds_right}
+use Rattle.mapping_laws.proofs.Holding.{set-events, run_holds_right}
 use Rattle.run_laws.proofs.RunsOnce.{runs-more}
 use Rattle.print_laws.proofs.Pieces.{maps_of_runs_read_back}
 use Rattle.promise_laws.specs.CableLines.{IsPulled, IsPlugged}
@@ -34,11 +34,12 @@ use Rattle.run_defs.specs.declared.line.Line.TheVariants.{Map as MapLine, Pull a
 use Rattle.run_defs.specs.declared.line.PlugWords.{PlugWords}
 use Rattle.run_defs.specs.Mapped.{IsMapped}
 use Rattle.run_defs.specs.LineText.{map_text}
-use Rattle.run_defs.specs.Output.{Piece, OneLine, MapLines}
+use Rattle.run_defs.specs.Output.{Piece, OneLine, MapLines, lines}
 use Rattle.run_defs.specs.Session.{SessionState, LastRoutes, complete_map}
-use Rattle.run_defs.specs.Outcome.{event_of, step_or_idle, is_done, pull_done, plug_done, words_of_plug, revocations, outcome}
+use Rattle.run_defs.specs.Outcome.{event_of, is_done, words_of_plug, revocations, revoke_lines, one_event, seen, outcome}
 use Rattle.run_defs.specs.Run.{Does, IsRun}
-use Rattle.run_defs.specs.Run.Does.{determined, maps, circuits, routes}
+use Rattle.run_defs.proofs.Doing.{Doing, doing, does, acted-revocations}
+use Rattle.run_defs.proofs.Doing.Doing.{determined, maps, circuits, routes}
 use Rattle.run_defs.specs.Headline.{IsCommandOf as IsMappedOf}
 use Rattle.fab_script.specs.Ranges.{IsHost, IsEnd, IsCommandOf}
 use Rattle.answer_defs.specs.Answer.{Answered}
@@ -46,8 +47,8 @@ use Rattle.judge_laws.specs.Lines.{IsCounted}
 use Rattle.judge_laws.specs.Commands.{IsToldOf, IsAnsweredBy, is_of_network, CommandsAreAnswered}
 use Rattle.judge_laws.proofs.Unpulled.{Still, pulls_or_plugs, event-still, event-plan, asks-still, revoked-still}
 use Rattle.judge_laws.proofs.Stepped.{step-named}
-use Rattle.judge_laws.proofs.Doing.{AnsweredIn, end-same, stepped-answered, idle-answered, walk-answered, busy-answered, plan-answered, settle-answered, finish-answered, pull-answered, plug-answered, revoke-answered, install-answered, map-answered, circuit-answered, nomap-answered, routes-answered, broken-answered}
-use Rattle.judge_laws.proofs.Held.{HoldsFine, revoked-set, run-fine, routes-fine, last-complete, all-hosts}
+use Rattle.judge_laws.proofs.Doing.{step_lines, pull_done, plug_done, AnsweredIn, end-same, stepped-answered, idle-answered, walk-answered, busy-answered, plan-answered, settle-answered, finish-answered, pull-answered, plug-answered, revoke-answered, install-answered, map-answered, circuit-answered, nomap-answered, routes-answered, broken-answered}
+use Rattle.judge_laws.proofs.Held.{HoldsFine, run-fine, routes-fine, last-complete, all-hosts}
 
 -- the hosts of the last routes as a line counts them
 hosts-counted : (n : Network) (s : SessionState) → IsFabric n → HoldsFine n s → (l : LastRoutes) → s.last_routes ≡ Some l → IsCounted (length l.hosts) × AllByRecursion (IsHost n) l.hosts
@@ -69,7 +70,7 @@ pulled-answered : (n : Network) (before : List Answered) (s : SessionState) → 
 pulled-answered n before s told at is there =
     let r = step s.world (PullEvent at) in
     let o = pull_done s at r in
-    let line = pull_line-true s o.after at o.output (determined refl) in
+    let line = pull_line-true s o.after at o.output (does (determined refl)) in
     let same : line.0 ≡ is_done r.0 = line-done at line.0 (is_done r.0) (sym line.1) in
     pull-answered n before s told at r there (event-set s.world (PullEvent at)) (subst (IsPulled s.world r.1 at) same line.2) (event-plan s.world (PullEvent at))
 
@@ -82,7 +83,7 @@ plugged-answered n before s told a b is one other =
     let o = plug_done s a b r in
     let first = end-same n k a.v a.p hosts switches ∙ one in
     let second = end-same n k b.v b.p hosts switches ∙ other in
-    let line = plug_line-true s o.after a b o.output first second (determined refl) in
+    let line = plug_line-true s o.after a b o.output first second (does (determined refl)) in
     let same : line.0 ≡ words_of_plug s.world a b = line-plugged a b line.0 (words_of_plug s.world a b) (sym line.1) in
     plug-answered n before s told a b r one other first second (event-set s.world (PlugEvent a b)) (subst (IsPlugged s.world r.1 a b) same line.2) (event-plan s.world (PlugEvent a b))
 
@@ -103,7 +104,7 @@ event-quiet w (FlipLine e bit pattern) = channel-quiet (leaving w.links.cables e
 event-quiet w (ExpireLine h peer) = refl
 event-quiet w (ReplayLine serial) = refl
 
-step-answered : (n : Network) (before : List Answered) (s : SessionState) → IsToldOf n before s → (line : StepLine) → IsSessionOf n s → (o : Option Event) → IfSome o (λ e. pulls_or_plugs e ≡ false) → AnsweredIn n before s (Step line) (Some (step_or_idle s o))
+step-answered : (n : Network) (before : List Answered) (s : SessionState) → IsToldOf n before s → (line : StepLine) → IsSessionOf n s → (o : Option Event) → IfSome o (λ e. pulls_or_plugs e ≡ false) → AnsweredIn n before s (Step line) (Some (seen s (one_event s.world step_lines o)))
 step-answered n before s told line is None quiet = idle-answered n before s told line
 step-answered n before s told line is (Some e) quiet =
     let hosts : (fabric_of s.world).hosts ≡ n.hosts = ap (λ (x : Network). x.hosts) is.first in
@@ -129,7 +130,9 @@ outcome-answered n before s Finish f is holds told of_n kind = finish-answered n
 outcome-answered n before s (Duo e) f is holds told of_n kind = absurd (true≢false (sym kind))
 outcome-answered n before s (Pull at) f is holds told of_n kind = pulled-answered n before s told at is of_n
 outcome-answered n before s (Plug a b) f is holds told of_n kind = plugged-answered n before s told a b is of_n.0 of_n.1
-outcome-answered n before s Revoke f is holds told of_n kind = revoke-answered n before s told (steps s.world (revocations s.world)) (revoked-set s.world) (revoked-still s.world)
+outcome-answered n before s Revoke f is holds told of_n kind =
+    subst (λ v. IsAnsweredBy n before s Revoke (lines (revoke_lines s.world)) (record s { world = v })) (sym (acted-revocations s.world))
+    (revoke-answered n before s told (steps s.world (revocations s.world)) (ap (λ (v : WorldState). v.adopted) (sym (acted-revocations s.world)) ∙ set-events s.world (revocations s.world)) (revoked-still s.world))
 outcome-answered n before s Broken f is holds told of_n kind = broken-answered n before s told s.world.adopted refl holds.adopted
 
 -- a map that a command prints after a run is read again
@@ -140,18 +143,18 @@ module _ (n : Network) (commands : List Command) (out : List Piece) (s : Session
       (ap (λ l. out ++ l) e ∙ sym (append_assoc out before (MapLines m ∷ behind)))).read
 
 does-answered : {s next : SessionState} {c : Command} {printed : List Piece} → (n : Network) (commands : List Command) (out : List Piece) (before : List Answered) → IsFabric n → AreNamed n → AllByRecursion (IsCommandOf n) commands → IsCommandOf n c → IsRun n commands out s
-    → IsToldOf n before s → Does s c printed next → is_of_network c ≡ true → IsAnsweredBy n before s c printed next
+    → IsToldOf n before s → Doing s c printed next → is_of_network c ≡ true → IsAnsweredBy n before s c printed next
 does-answered {s = s} {c = c} n commands out before f good all of_n r told (determined e) kind =
     let over = all-weaker (IsCommandOf n) (IsMappedOf n) commands (said-command n) all in
     subst (AnsweredIn n before s c) e (outcome-answered n before s c f (run_keeps_world n commands out s f over r) (run-fine n commands out s f over r) told of_n kind)
-does-answered {s = s} {next = next} {printed = printed} n commands out before f good all of_n r told (maps {host = host} {depth = depth} {tries = tries} after j m words none made is left) kind =
+does-answered {s = s} {next = next} {printed = printed} n commands out before f good all of_n r told (maps {host = host} {depth = depth} {tries = tries} after j m words idle made is left) kind =
     let over = all-weaker (IsCommandOf n) (IsMappedOf n) commands (said-command n) all in
-    let can = can-map-now n s host depth tries (said-command n (Map host depth tries) of_n) (run_keeps_world n commands out s f over r) none in
+    let can = can-map-now n s host depth tries (said-command n (Map host depth tries) of_n) (run_keeps_world n commands out s f over r) idle in
     let same = (mapping_keeps host depth tries s.world after j m words can made).0.adopted in
     let line = OneLine (MapLine host words (length j) (after.injected - s.world.injected)) in
     subst (IsAnsweredBy n before s (Map host depth tries) printed) (sym left)
     (map-answered n before s told host depth tries (length j) (after.injected - s.world.injected) m words s.world.links.cables.changes after printed of_n.0
-    (λ behind e. map-back n commands out s f good over r (Map host depth tries) next printed (line ∷ []) behind m (said-command n (Map host depth tries) of_n) (maps after j m words none made is left) (is ∙ ap (λ l. line ∷ l) e))
+    (λ behind e. map-back n commands out s f good over r (Map host depth tries) next printed (line ∷ []) behind m (said-command n (Map host depth tries) of_n) (does (maps after j m words idle made is left)) (is ∙ ap (λ l. line ∷ l) e))
     (λ says. made_map_is_right host depth tries s.world after j m can (subst (IsMapped host depth tries s.world after j m) says made)) same
     (λ still. subst (Still s.world) (sym made.led) (asks-still s.world.links.cables.changes host tries (map (λ (x : Entry). x.walk) j) s.world still)) is)
 does-answered {s = s} {next = next} {printed = printed} n commands out before f good all of_n r told (circuits {host = host} {depth = depth} is left) kind =
@@ -159,7 +162,7 @@ does-answered {s = s} {next = next} {printed = printed} n commands out before f 
     let most = of_n.1.1 in
     subst (IsAnsweredBy n before s (Circuit host depth) printed) (sym left)
     (circuit-answered n before s told (fabric_of s.world) host depth printed of_n.0 (omega arith)
-    (λ m l e. map-back n commands out s f good over r (Circuit host depth) next printed (OneLine l ∷ []) [] m (said-command n (Circuit host depth) of_n) (circuits is left) e) is)
+    (λ m l e. map-back n commands out s f good over r (Circuit host depth) next printed (OneLine l ∷ []) [] m (said-command n (Circuit host depth) of_n) (does (circuits is left)) e) is)
 does-answered {s = s} {next = next} {printed = printed} n commands out before f good all of_n r told (routes l found complete are is left) kind =
     let over = all-weaker (IsCommandOf n) (IsMappedOf n) commands (said-command n) all in
     let session = run_keeps_world n commands out s f over r in
@@ -168,4 +171,4 @@ does-answered {s = s} {next = next} {printed = printed} n commands out before f 
     subst (IsAnsweredBy n before s Routes printed) (sym left) (routes-answered n before s told l found printed f session complete (holds.map l (last-complete s.last_map l complete)) fine are is)
 
 pub commands_are_answered : CommandsAreAnswered
-commands_are_answered n commands out printed before s next c f good all of_n r told d kind = does-answered n commands out before f good all of_n r told d kind
+commands_are_answered n commands out printed before s next c f good all of_n r told d kind = does-answered n commands out before f good all of_n r told (doing d) kind

@@ -1,27 +1,15 @@
 -- What a host hears and sends leaves how many tokens each of its ports was opened with.
-use Rattle.std.proofs.Common.{◌≡◌, ℕ, Bool, true, false, ◌&&◌, List, [], ◌∷◌, nat_eq, get_or, set, Option, Some, None, option_map, refl, sym, ap, ◌∙◌, subst, Result, Ok, Err, true≢false, if◌then◌else◌}
-use Rattle.packet_defs.specs.declared.kind.Kind.{Kind}
-use Rattle.packet_defs.specs.declared.kind.Kind.TheVariants.{Mapping, Gm}
-use Rattle.packet_defs.specs.declared.host_drop.HostDrop.{HostDrop}
-use Rattle.packet_defs.specs.Host.{decode as decode_packet}
+use Rattle.std.proofs.Common.{◌≡◌, ℕ, Bool, true, false, List, [], ◌∷◌, get_or, set, Option, Some, None, option_map, refl, sym, ap, ◌∙◌, subst, true≢false, if◌then◌else◌}
 use Rattle.gm_defs.specs.declared.frame.FrameHead.{FrameHead}
-use Rattle.gm_defs.specs.declared.frame.GmBody.{GmBody}
-use Rattle.gm_defs.specs.declared.frame.GmBody.TheVariants.{Frame, Ack as Acknowledges}
-use Rattle.gm_defs.specs.declared.frame.Malformed.{Malformed as NoBody}
 use Rattle.gm_defs.specs.declared.token.Took.{Took}
 use Rattle.gm_defs.specs.declared.token.Took.TheVariants.{NotNext as TookNotNext, NoToken as TookNoToken, Part as TookPart, Whole}
-use Rattle.gm_defs.specs.Body.{decode, part_in, is_last}
-use Rattle.mapping_defs.specs.Mapping.{RoutePart, MappingBody, decode_mapping}
-use Rattle.mapping_defs.specs.Mapping.MappingBody.{HostProbe, HostReply, Loopback, Part, PartAck}
+use Rattle.gm_defs.specs.Body.{part_in, is_last}
 use Rattle.gm_defs.specs.Token.{PortState, Sending, Provided, taker}
 use Rattle.gm_defs.specs.Port.{send_of, ended_by, finished, ended_with, going_on_with, taken_by, delivered}
-use Rattle.world_defs.specs.declared.applied.Applied.{Applied}
-use Rattle.world_defs.specs.declared.applied.Applied.TheVariants.{Part as OnePart, Active, Old}
-use Rattle.world_defs.specs.declared.heard.Heard.{Heard}
-use Rattle.world_defs.specs.Table.{TableState, applied}
+use Rattle.world_defs.specs.declared.arrival.Arrival.{Arrival}
 use Rattle.world_defs.specs.Lane.{Ticket, lane_acknowledged, tickets_finished, lane_after}
 use Rattle.world_defs.specs.Node.{NodeState, Outgoing, Probe, TablePart, Reply, PartAnswer, FrameAnswer, Fragment, lane_at, with_lane, new_node, port_at, with_port, after_sending}
-use Rattle.world_defs.specs.Hearing.{is_host, heard_if, is_part_for, part_heard, hear_mapping, hear_mapping_body, message_of, delivered_after, frame_heard, frame_took, all_finished, ack_heard, hear_gm, hear_gm_body, hear_body, hear_decoded, hear, frame_lane, ack_lane}
+use Rattle.world_defs.specs.Hearing.{message_of, delivered_after, frame_heard, frame_took, all_finished, ack_heard, hear, frame_lane, ack_lane}
 use Rattle.world_laws.proofs.Lists.{at-set}
 use Rattle.world_laws.proofs.Along.{Along}
 use Rattle.world_defs.specs.declared.event.Event.{Event}
@@ -30,6 +18,7 @@ use Rattle.world_defs.specs.declared.effect.Effect.{Effect}
 use Rattle.world_defs.specs.Client.{Called}
 use Rattle.world_defs.specs.World.{WorldState, host_count, node_at, with_node, client_at}
 use Rattle.world_defs.specs.Step.{step}
+use Rattle.world_defs.proofs.Hearings.{Hearing, hearing}
 use Rattle.world_defs.proofs.Views.{HostChange, CallChange, Change, view}
 use Rattle.world_defs.proofs.Strikes.{injection-nodes, injection-clients}
 
@@ -81,27 +70,6 @@ delivered-counted h part None = port-same None
 delivered-counted h part (Some p) = taken-counted p h part (taker p h)
 
 -- what a host hears
-heard_if-counted : (b : Bool) (n : NodeState) (r : Heard × NodeState) → NodeCounted n r.1 → NodeCounted n (heard_if b n r).1
-heard_if-counted true n (heard, after) k = k
-heard_if-counted false n (heard, after) k = node-same n n refl
-
-part_heard-counted : (n : NodeState) (p : RoutePart) (r : Applied × TableState) → NodeCounted n (part_heard n p r)
-part_heard-counted n p (OnePart, t) = node-same n (part_heard n p (OnePart, t)) refl
-part_heard-counted n p (Active, t) = node-same n (part_heard n p (Active, t)) refl
-part_heard-counted n p (Old, t) = node-same n (part_heard n p (Old, t)) refl
-
-hear_mapping-counted : (host hosts : ℕ) (n : NodeState) (b : MappingBody) → NodeCounted n (hear_mapping host hosts n b).1
-hear_mapping-counted host hosts n (HostProbe number mapper back) =
-    heard_if-counted (is_host hosts mapper) n _ (node-same n (record n { reply = Some (record { number = number; back = back }) }) refl)
-hear_mapping-counted host hosts n (HostReply number from) = heard_if-counted (is_host hosts from) n _ (node-same n n refl)
-hear_mapping-counted host hosts n (Loopback number mapper) = heard_if-counted (nat_eq mapper host) n _ (node-same n n refl)
-hear_mapping-counted host hosts n (Part p) = heard_if-counted (is_part_for host hosts p) n _ (part_heard-counted n p (applied n.table p))
-hear_mapping-counted host hosts n (PartAck epoch from part) = heard_if-counted (is_host hosts from) n _ (node-same n n refl)
-
-hear_mapping_body-counted : (host hosts : ℕ) (n : NodeState) (b : Option MappingBody) → NodeCounted n (hear_mapping_body host hosts n b).1
-hear_mapping_body-counted host hosts n None = node-same n n refl
-hear_mapping_body-counted host hosts n (Some b) = hear_mapping-counted host hosts n b
-
 delivered_after-counted : (n : NodeState) (h : FrameHead) (part : List ℕ) (t : Took) → NodeCounted n (delivered_after n h part t)
 delivered_after-counted n h part TookNotNext = node-same n n refl
 delivered_after-counted n h part TookNoToken = node-same n n refl
@@ -121,28 +89,17 @@ all_finished-counted n (t ∷ ts) =
     let p : Option PortState = option_map (λ p. finished p t.token) (port_at n t.port) in
     node-after n (with_port n t.port p) (all_finished n (t ∷ ts)) (with_port-counted n t.port p (finished-counted t.token (port_at n t.port))) (all_finished-counted (with_port n t.port p) ts)
 
-hear_gm-counted : (host hosts : ℕ) (n : NodeState) (body : List ℕ) (b : GmBody) → NodeCounted n (hear_gm host hosts n body b).1
-hear_gm-counted host hosts n body (Frame h) =
-    heard_if-counted (nat_eq h.dst host && is_host hosts h.src) n _ (frame_heard-counted n h (part_in body) (frame_took n h))
-hear_gm-counted host hosts n body (Acknowledges a) =
-    let m : NodeState = with_lane n (ack_lane a) (lane_acknowledged (lane_at n (ack_lane a)) a.next) in
-    heard_if-counted (nat_eq a.dst host && is_host hosts a.src) n _ (node-after n m (ack_heard n a) (node-same n m refl) (all_finished-counted m (tickets_finished (lane_at n (ack_lane a)) a.next)))
-
-hear_gm_body-counted : (host hosts : ℕ) (n : NodeState) (body : List ℕ) (r : Result GmBody NoBody) → NodeCounted n (hear_gm_body host hosts n body r).1
-hear_gm_body-counted host hosts n body (Err e) = node-same n n refl
-hear_gm_body-counted host hosts n body (Ok b) = hear_gm-counted host hosts n body b
-
-hear_body-counted : (host hosts : ℕ) (n : NodeState) (k : Kind) (body : List ℕ) → NodeCounted n (hear_body host hosts n k body).1
-hear_body-counted host hosts n Mapping body = hear_mapping_body-counted host hosts n (decode_mapping body)
-hear_body-counted host hosts n Gm body = hear_gm_body-counted host hosts n body (decode body)
-
-hear_decoded-counted : (host hosts : ℕ) (n : NodeState) (r : Result (Kind × List ℕ) HostDrop) → NodeCounted n (hear_decoded host hosts n r).1
-hear_decoded-counted host hosts n (Err drop) = node-same n n refl
-hear_decoded-counted host hosts n (Ok (kind, body)) = hear_body-counted host hosts n kind body
-
 pub hear-counted : (host hosts : ℕ) (n : NodeState) (wire : List ℕ) → NodeCounted n (hear host hosts n wire).1
-unfolding hear
-hear-counted host hosts n wire = hear_decoded-counted host hosts n (decode_packet wire)
+hear-counted host hosts n wire = by (hearing host hosts n wire)
+  where
+    by : {r : Arrival × NodeState} → Hearing host hosts n wire r → NodeCounted n r.1
+    by (Hearing.stays a) = node-same n n refl
+    by (Hearing.probe body number mapper back e d) = node-same n _ refl
+    by (Hearing.part body p e d mine) = node-same n _ refl
+    by (Hearing.frame body h e d mine from) = frame_heard-counted n h (part_in body) (frame_took n h)
+    by (Hearing.ack body a e d mine from) =
+        let m : NodeState = with_lane n (ack_lane a) (lane_acknowledged (lane_at n (ack_lane a)) a.next) in
+        node-after n m (ack_heard n a) (node-same n m refl) (all_finished-counted m (tickets_finished (lane_at n (ack_lane a)) a.next))
 
 -- and what it sends
 pub after_sending-counted : (n : NodeState) (o : Outgoing) → NodeCounted n (after_sending n o)

@@ -59,7 +59,9 @@ use Rattle.run_defs.specs.Circuit.IsCircuitTold.{whole, too_many_nodes}
 use Rattle.run_defs.specs.LineText.{map_text}
 use Rattle.run_defs.specs.Output.{Piece, OneLine, MapLines, lines}
 use Rattle.run_defs.specs.Session.{SessionState, LastMap, LastRoutes, is_complete, complete_map as complete_of}
-use Rattle.run_defs.specs.Outcome.{Outcome, says, says_only, fault_of, words_of, stepped, step_or_idle, pull_done, plug_done, is_done, words_of_plug, revoke_done, install_done, install_now, install, set_of, may_install, refusal_cause, map_refused, routes_refused, broken_routes, broken_lines, outcome}
+use Rattle.run_defs.specs.Deed.{says}
+use Rattle.run_defs.specs.Outcome.{Outcome, fault_of, words_of, is_done, words_of_plug, install_lines, installation, one_event, install_now, install, set_of, may_install, refusal_cause, map_refused, routes_refused, broken_routes, broken_lines, seen, outcome}
+use Rattle.run_defs.proofs.Doing.{acted-settle, acted-installation}
 use Rattle.run_defs.specs.Run.{map_pieces, routes_lines, hosts_by_address}
 use Rattle.mapping_laws.specs.Runs.{IsSessionOf}
 use Rattle.line_forms.specs.declared.line.MapSaid.TheVariants.{Complete as SaidComplete, Doubtful as SaidDoubtful, Shallow, Overgrown}
@@ -76,6 +78,25 @@ use Rattle.judge_laws.proofs.Unpulled.{Still, StaysStill, settle-still, install-
 use Rattle.judge_laws.proofs.Held.{IsKept, AreFine, count-of}
 use Rattle.judge_laws.proofs.RouteWalks.{routes-rising, routes-counted}
 use Rattle.judge_laws.proofs.Ranks.{ranks-in, ranks-rising}
+
+-- what an event, an installation or all revocations come to, by the effects and the world then
+abbrev pub says_in : SessionState → List Line → WorldState → Outcome
+says_in s ls w = record { output = lines ls; after = record s { world = w } }
+
+abbrev pub step_lines : Effect → WorldState → List Line
+step_lines effect w = StepOutput (words_of w effect) ∷ []
+
+abbrev pub stepped : SessionState → Effect × WorldState → Outcome
+stepped s r = says_in s (step_lines r.0 r.1) r.1
+
+abbrev pub pull_done : SessionState → End → Effect × WorldState → Outcome
+pull_done s at r = says_in s (PullLine at (is_done r.0) ∷ []) r.1
+
+abbrev pub plug_done : SessionState → End → End → Effect × WorldState → Outcome
+plug_done s a b r = says_in s (PlugLine a b (words_of_plug s.world a b) ∷ []) r.1
+
+abbrev pub revoke_done : SessionState → List Effect × WorldState → Outcome
+revoke_done s r = says_in s (Revoked (length (filter is_done r.0)) ∷ []) r.1
 
 -- what a determined outcome prints is an answer
 abbrev pub AnsweredIn : Network → List Answered → SessionState → Command → Option Outcome → Type 0
@@ -234,7 +255,7 @@ module _ (n : Network) (before : List Answered) (s : SessionState) (told : IsTol
       alone-answered (Step line) (StepOutput (words_of w effect)) StepSaid (record s { world = w }) (step_line (words_of w effect) there) refl refl (λ o. refl) (λ o. refl) refl refl same (record { told = refl; lengths = tt; places = λ past. tt }) tt
       (λ still no. fabric-same s.world w (quiet still)) (λ still no. (quiet still).plan)
 
-  pub idle-answered : (line : StepLine) → AnsweredIn n before s (Step line) (Some (step_or_idle s None))
+  pub idle-answered : (line : StepLine) → AnsweredIn n before s (Step line) (Some (seen s (one_event s.world step_lines None)))
   idle-answered line = stays-answered (Step line) (StepOutput IdleWords) StepSaid (step_line IdleWords tt) refl refl (λ o. refl) (λ o. refl) (record { told = refl; lengths = tt; places = λ past. tt }) tt refl
 
   pub pull-answered : (at : End) (r : Effect × WorldState) → IsEnd n at → r.1.adopted ≡ s.world.adopted → IsPulled s.world r.1 at (is_done r.0) → (HasNoPull s.world → HasNoPull r.1) → AnsweredIn n before s (Pull at) (Some (pull_done s at r))
@@ -271,26 +292,27 @@ module _ (n : Network) (before : List Answered) (s : SessionState) (told : IsTol
       let rounds = l.value.rounds in
       let resets = min l.value.resets last_count in
       let left = unacknowledged_in l.world in
-      alone-answered Settle (SettleLine rounds resets left) SettleSaid (record s { world = l.world }) (settle_line rounds resets left) refl refl (λ o. refl) (λ o. refl) refl refl (settle-set s.world) (record { told = refl; lengths = tt; places = λ past. tt }) tt
-      (λ still safe. fabric-same s.world l.world (settle-still s.world still)) (λ still safe. (settle-still s.world still).plan)
+      subst (λ v. IsAnsweredBy n before s Settle (OneLine (SettleLine rounds resets left) ∷ []) (record s { world = v })) (sym (acted-settle s.world))
+      (alone-answered Settle (SettleLine rounds resets left) SettleSaid (record s { world = l.world }) (settle_line rounds resets left) refl refl (λ o. refl) (λ o. refl) refl refl (settle-set s.world) (record { told = refl; lengths = tt; places = λ past. tt }) tt
+      (λ still safe. fabric-same s.world l.world (settle-still s.world still)) (λ still safe. (settle-still s.world still).plan))
 
   pub finish-answered : AnsweredIn n before s Finish (outcome s Finish)
   finish-answered = stays-answered Finish (FinishLine s.world.injected s.world.dropped) FinishSaid (finish_line s.world.injected s.world.dropped) refl refl (λ o. refl) (λ o. refl) (record { told = refl; lengths = tt; places = λ past. tt }) tt refl
 
-  pub busy-answered : (host depth tries : ℕ) → IsHost n host → AnsweredIn n before s (Map host depth tries) (map_refused s host)
+  pub busy-answered : (host depth tries : ℕ) → IsHost n host → AnsweredIn n before s (Map host depth tries) (option_map (seen s) (map_refused s.world host))
   busy-answered host depth tries there = by (is_idle s.world.links)
     where
-      by : (idle : Bool) → AnsweredIn n before s (Map host depth tries) (if idle then None else Some (says_only s (MapBusy host ∷ [])))
+      by : (idle : Bool) → AnsweredIn n before s (Map host depth tries) (option_map (seen s) (if idle then None else Some (says (MapBusy host ∷ []))))
       by true = tt
       by false = stays-answered (Map host depth tries) (MapBusy host) (BusySaid host) (busy_line host there) (host-same host) refl (λ o. refl) (λ o. refl) (record { told = refl; lengths = tt; places = λ past. tt }) tt refl
 
   -- an installation that is refused
-  refused-answered : (tries : ℕ) (cause : InstallCause) → AnsweredIn n before s (Install tries) (Some (says_only s (InstallRefused cause ∷ [])))
+  refused-answered : (tries : ℕ) (cause : InstallCause) → AnsweredIn n before s (Install tries) (Some (seen s (says (InstallRefused cause ∷ []))))
   refused-answered tries cause = stays-answered (Install tries) (InstallRefused cause) InstallRefusedSaid (install_refused cause) refl refl (λ o. refl) (λ o. refl) (record { told = refl; lengths = tt; places = λ past. tt }) tt refl
 
   -- one that is made: routes are adopted
   done-answered : (tries : ℕ) (l : LastRoutes) (r : Log ℕ) → s.last_routes ≡ Some l → IsCounted (length l.hosts) → AllByRecursion (IsHost n) l.hosts → is_some r.world.adopted ≡ true → (HasNoPull s.world → fabric_of s.world ≡ fabric_of r.world) → (HasNoPull s.world → HasNoPull r.world)
-      → AnsweredIn n before s (Install tries) (Some (install_done s l.hosts r))
+      → AnsweredIn n before s (Install tries) (Some (says_in s (install_lines l.hosts r) r.world))
   done-answered tries l r are few all adopted fabric plan =
       let active : ℕ → Bool = λ h. is_some (active_epoch (node_at r.world h).table) in record {
         a = WithTables l.hosts;
@@ -303,20 +325,21 @@ module _ (n : Network) (before : List Answered) (s : SessionState) (told : IsTol
         unpulled = λ still safe. plan still;
       }
 
-  pub install-answered : (tries : ℕ) (o : Option LastRoutes) → s.last_routes ≡ o → ((l : LastRoutes) → s.last_routes ≡ Some l → IsCounted (length l.hosts) × AllByRecursion (IsHost n) l.hosts) → AnsweredIn n before s (Install tries) (Some (install s tries o))
+  pub install-answered : (tries : ℕ) (o : Option LastRoutes) → s.last_routes ≡ o → ((l : LastRoutes) → s.last_routes ≡ Some l → IsCounted (length l.hosts) × AllByRecursion (IsHost n) l.hosts) → AnsweredIn n before s (Install tries) (Some (seen s (install s.world tries o)))
   install-answered tries None are hosts = refused-answered tries NoRoutes
   install-answered tries (Some l) are hosts = by (not (is_idle s.world.links)) (not (may_install s.world l))
     where
-      by : (busy other : Bool) → AnsweredIn n before s (Install tries) (Some (if busy then says_only s (InstallRefused Busy ∷ []) else if other then says_only s (InstallRefused (refusal_cause s.world l) ∷ []) else install_now s l tries))
+      by : (busy other : Bool) → AnsweredIn n before s (Install tries) (Some (seen s (if busy then says (InstallRefused Busy ∷ []) else if other then says (InstallRefused (refusal_cause s.world l) ∷ []) else install_now s.world l tries)))
       by true other = refused-answered tries Busy
       by false true = refused-answered tries (refusal_cause s.world l)
       by false false =
           let w : WorldState = adopted_by s.world l.mapper l.routes in
-          let r = log.install (set_of s.world l) l.hosts tries w in
+          let r = installation s.world l tries in
           let there = hosts l are in
           let quiet = install-still (set_of s.world l) l.hosts tries w in
-          done-answered tries l r are there.0 there.1 (ap is_some (installed-set (set_of s.world l) l.hosts tries w))
-          (λ still. sym (adopted-fabric s.world l.mapper l.routes) ∙ fabric-same w r.world (quiet still)) (λ still. (quiet still).plan)
+          subst (λ v. IsAnsweredBy n before s (Install tries) (lines (install_lines l.hosts r)) (record s { world = v })) (sym (acted-installation s.world l tries))
+          (done-answered tries l r are there.0 there.1 (ap is_some (installed-set (set_of s.world l) l.hosts tries w))
+          (λ still. sym (adopted-fabric s.world l.mapper l.routes) ∙ fabric-same w r.world (quiet still)) (λ still. (quiet still).plan))
 
   -- a map that is made
   pub map-answered : (host depth tries asks packets : ℕ) (m : NetMap) (words : MapWords) (began : ℕ) (after : WorldState) (out : List Piece) → IsHost n host → ((behind : List Piece) → map_pieces words m ≡ MapLines m ∷ behind → map_reading n (map_text n m) ≡ Ok m)
@@ -384,7 +407,7 @@ module _ (n : Network) (before : List Answered) (s : SessionState) (told : IsTol
       (stays-answered (Circuit host depth) l (NodesSaid host) (nodes_line host (length j) there) (host-same host) refl (λ o. refl) (λ o. refl) (record { told = refl; lengths = tt; places = λ past. tt }) tt refl)
 
   -- routes that are refused
-  pub nomap-answered : (o : Option LastMap) → AnsweredIn n before s Routes (routes_refused s o)
+  pub nomap-answered : (o : Option LastMap) → AnsweredIn n before s Routes (option_map (seen s) (routes_refused o))
   nomap-answered (Some l) = tt
   nomap-answered None = stays-answered Routes NoMap NoMapSaid no_map refl refl (λ o. refl) (λ o. refl) (record { told = refl; lengths = tt; places = λ past. tt }) tt refl
 
@@ -422,7 +445,7 @@ module _ (n : Network) (before : List Answered) (s : SessionState) (told : IsTol
       }
 
   -- broken routes
-  pub broken-answered : (o : Option Adoption) → s.world.adopted ≡ o → ((x : Adoption) → s.world.adopted ≡ Some x → AreFine n x.routes) → AnsweredIn n before s Broken (Some (says_only s (broken_lines s.world o)))
+  pub broken-answered : (o : Option Adoption) → s.world.adopted ≡ o → ((x : Adoption) → s.world.adopted ≡ Some x → AreFine n x.routes) → AnsweredIn n before s Broken (Some (seen s (says (broken_lines s.world o))))
   broken-answered None are fine =
       stays-answered Broken NoBroken NoBrokenSaid no_broken refl (ap not (told.adopted ∙ ap is_some are)) (λ o. refl) (λ o. refl) (record { told = refl; lengths = tt; places = λ past. tt }) tt refl
   broken-answered (Some x) are fine =

@@ -1,127 +1,40 @@
 -- What a session of a run holds names hosts of the fabric, is small, and rises: its last map, its last routes, and the adopted
 -- ones.
-use Rattle.std.proofs.Common.{◌≡◌, ◌<◌, ◌≤◌, ◌+◌, ℕ, zero, suc, Bool, true, false, not, List, [], ◌∷◌, length, nat_eq, nat_lt, Option, Some, None, cond, refl, sym, ap, ◌∙◌, subst, arith, if◌then◌else◌, ◌⊎◌, inl, inr}
+use Rattle.std.proofs.Common.{◌≡◌, ◌<◌, ◌≤◌, ◌+◌, ℕ, zero, suc, Bool, true, false, List, [], ◌∷◌, length, nat_eq, nat_lt, Option, Some, None, cond, refl, sym, ap, ◌∙◌, subst, arith, ◌⊎◌, inl, inr}
 use Rattle.std.specs.List.{AllByRecursion, filter, list_any, range_with_len}
-use Rattle.std.proofs.lemmas.Bool.Decides.{nat_tests}
+use Rattle.std.proofs.lemmas.List.FromFn.{length-range_with_len}
 use Rattle.net_defs.specs.declared.route.Route.{Route}
 use Rattle.net_defs.specs.Network.{Network, IsFabric, has_vertex}
 use Rattle.net_defs.specs.declared.vertex.Vertex.TheVariants.{Host}
 use Rattle.net_defs.specs.RouteSet.{AreRising}
 use Rattle.cable_history.specs.History.{fabric_at}
-use Rattle.link_defs.specs.Links.{is_idle}
-use Rattle.map_defs.specs.declared.vertex.MapVertex.{MapVertex}
-use Rattle.map_defs.specs.declared.vertex.MapVertex.TheVariants.{Host as HostVertex, Switch as SwitchVertex}
 use Rattle.map_defs.specs.NetMap.{NetMap, hosts_of, switches_of}
 use Rattle.map_defs.specs.Orientation.{order_of}
 use Rattle.map_defs.specs.Routing.{AreRoutesOf}
 use Rattle.map_laws.proofs.Size.{right_map_is_no_larger}
-use Rattle.map_canon.specs.Printing.{IsOfFabric}
 use Rattle.fab_script.specs.Ranges.{IsHost}
-use Rattle.world_defs.specs.declared.event.Event.{Event}
-use Rattle.world_defs.specs.declared.event.Event.TheVariants.{Begin, Close, Provide, Send, Poll, Pull, Plug}
-use Rattle.world_defs.specs.declared.effect.Effect.{Effect}
 use Rattle.world_defs.specs.Table.{Adoption}
-use Rattle.world_defs.specs.World.{WorldState, fabric_of, host_count, adopted_by}
-use Rattle.world_defs.specs.Step.{step, steps}
-use Rattle.world_defs.specs.Log.{Log}
-use Rattle.world_defs.specs.Logs as log
-use Rattle.install_laws.proofs.Worlds.{SameSet, event-set, settle-set, installed-set}
+use Rattle.world_defs.specs.World.{fabric_of, host_count}
 use Rattle.run_defs.specs.declared.command.Command.{Command}
-use Rattle.run_defs.specs.declared.command.Command.TheVariants.{Walk, Map, Circuit, Routes, Install, Begin as BeginCommand, Close as CloseCommand, Poll as PollCommand, Tokens, Provide as ProvideCommand, Send as SendCommand, Plan, Step, Settle, Finish, Duo, Pull as PullCommand, Plug as PlugCommand, Revoke, Broken}
-use Rattle.run_defs.specs.declared.line.InstallCause.TheVariants.{Busy}
-use Rattle.run_defs.specs.declared.line.Line.TheVariants.{MapBusy, InstallRefused}
 use Rattle.run_defs.specs.Output.{Piece}
 use Rattle.run_defs.specs.Session.{SessionState, LastMap, LastRoutes, is_complete, complete_map}
-use Rattle.run_defs.specs.Outcome.{Outcome, says_only, event_of, step_or_idle, stepped, install_done, install_now, install, set_of, may_install, refusal_cause, map_refused, routes_refused, revocations, outcome}
-use Rattle.run_defs.specs.Run.{Does, Runs, IsRun, hosts_by_address}
-use Rattle.run_defs.specs.Run.Does.{determined, maps, circuits, routes}
+use Rattle.run_defs.specs.Outcome.{set_of}
+use Rattle.run_defs.specs.Run.{Runs, IsRun, hosts_by_address}
+use Rattle.run_defs.proofs.Doing.{Doing, doing}
+use Rattle.run_defs.proofs.Doing.Doing.{determined, maps, circuits, routes}
 use Rattle.run_defs.specs.Run.Runs.{ended, goes_on}
 use Rattle.run_defs.specs.Headline.{IsCommandOf}
 use Rattle.mapping_laws.specs.Runs.{IsSessionOf}
 use Rattle.mapping_laws.specs.Held.{HoldsRight}
 use Rattle.mapping_laws.proofs.Made.{mapping_keeps}
-use Rattle.mapping_laws.proofs.Sessions.{can-map-now, does-stays, new-session, revoked-of}
-use Rattle.mapping_laws.proofs.Holding.{does-hold, new-holds}
+use Rattle.mapping_laws.proofs.Sessions.{can-map-now, does-stays, new-session}
+use Rattle.mapping_laws.proofs.Holding.{IsLastAdopted, HeldBy, outcome-held, does-hold, new-holds}
 use Rattle.print_laws.specs.Printed.{IsPrintable}
+use Rattle.print_laws.proofs.Pieces.{printable-of}
 use Rattle.print_laws.proofs.ReadAgain.{made_map_is_printable}
 use Rattle.judge_laws.specs.Answers.{IsRouteIn}
+use Rattle.judge_laws.proofs.Names.{host-there}
 use Rattle.judge_laws.proofs.RouteWalks.{routes-in}
-
--- the last routes were adopted
-record IsLastAdopted (s : SessionState) (o : Option Adoption) : Type 0 where
-  pub last : LastRoutes
-  pub are : s.last_routes ≡ Some last
-  pub is : o ≡ Some (set_of s.world last)
-
--- a session after another that holds the same, but may have adopted the last routes
-record HeldBy (s next : SessionState) : Type 0 where
-  pub last_map : next.last_map ≡ s.last_map
-  pub last_routes : next.last_routes ≡ s.last_routes
-  pub adopted : (next.world.adopted ≡ s.world.adopted) ⊎ IsLastAdopted s next.world.adopted
-
-held-world : (s : SessionState) (w : WorldState) → w.adopted ≡ s.world.adopted → HeldBy s (record s { world = w })
-held-world s w e = record { last_map = refl; last_routes = refl; adopted = inl e }
-
-abbrev HeldIn : SessionState → Option Outcome → Type 0
-HeldIn s None = Unit {0}
-HeldIn s (Some o) = HeldBy s o.after
-
-stepped-held : (s : SessionState) (r : Effect × WorldState) → r.1.adopted ≡ s.world.adopted → HeldIn s (Some (stepped s r))
-stepped-held s (x, w) e = held-world s w e
-
-step-held : (s : SessionState) (o : Option Event) → HeldIn s (Some (step_or_idle s o))
-step-held s None = held-world s s.world refl
-step-held s (Some e) = stepped-held s (step s.world e) (event-set s.world e)
-
-done-held : (s : SessionState) (l : LastRoutes) (hosts : List ℕ) (r : Log ℕ) → s.last_routes ≡ Some l → r.world.adopted ≡ Some (set_of s.world l) → HeldIn s (Some (install_done s hosts r))
-done-held s l hosts r are e = record { last_map = refl; last_routes = refl; adopted = inr (record { last = l; are = are; is = e }) }
-
-install-held : (s : SessionState) (tries : ℕ) (o : Option LastRoutes) → s.last_routes ≡ o → HeldIn s (Some (install s tries o))
-install-held s tries None are = held-world s s.world refl
-install-held s tries (Some l) are = by (not (is_idle s.world.links)) (not (may_install s.world l))
-  where
-    by : (busy other : Bool) → HeldIn s (Some (if busy then says_only s (InstallRefused Busy ∷ []) else if other then says_only s (InstallRefused (refusal_cause s.world l) ∷ []) else install_now s l tries))
-    by true other = held-world s s.world refl
-    by false true = held-world s s.world refl
-    by false false = let w : WorldState = adopted_by s.world l.mapper l.routes in done-held s l l.hosts (log.install (set_of s.world l) l.hosts tries w) are (installed-set (set_of s.world l) l.hosts tries w)
-
-refused-held : (s : SessionState) (o : Option LastMap) → HeldIn s (routes_refused s o)
-refused-held s None = held-world s s.world refl
-refused-held s (Some l) = tt
-
-busy-held : (s : SessionState) (host : ℕ) → HeldIn s (map_refused s host)
-busy-held s host = by (is_idle s.world.links)
-  where
-    by : (idle : Bool) → HeldIn s (if idle then None else Some (says_only s (MapBusy host ∷ [])))
-    by true = tt
-    by false = held-world s s.world refl
-
--- each host gives up its epoch, and what is adopted stays
-pub revoked-set : (w : WorldState) → SameSet w (steps w (revocations w)).1
-revoked-set w = revoked-of SameSet (record { same = λ v. refl; both = λ t u v f g. g ∙ f; event = λ v e q. event-set v e }) w
-
-outcome-held : (s : SessionState) (c : Command) → HeldIn s (outcome s c)
-outcome-held s (Walk host walk) = held-world s s.world refl
-outcome-held s (Map host depth tries) = busy-held s host
-outcome-held s (Circuit host depth) = tt
-outcome-held s Routes = refused-held s (complete_map s.last_map)
-outcome-held s (Install tries) = install-held s tries s.last_routes refl
-outcome-held s (BeginCommand h port sends recvs) = held-world s (step s.world (Begin h port sends recvs)).1 (event-set s.world (Begin h port sends recvs))
-outcome-held s (CloseCommand h port) = held-world s (step s.world (Close h port)).1 (event-set s.world (Close h port))
-outcome-held s (PollCommand h port) = held-world s (step s.world (Poll h port)).1 (event-set s.world (Poll h port))
-outcome-held s (Tokens h port) = held-world s s.world refl
-outcome-held s (ProvideCommand h port size prio) = held-world s (step s.world (Provide h port size prio)).1 (event-set s.world (Provide h port size prio))
-outcome-held s (SendCommand h port dest dport prio len seed) =
-    held-world s (step s.world (Send h port dest dport prio len seed)).1 (event-set s.world (Send h port dest dport prio len seed))
-outcome-held s (Plan ahead kind) = record { last_map = refl; last_routes = refl; adopted = inl refl }
-outcome-held s (Step line) = step-held s (event_of s.world line)
-outcome-held s Settle = held-world s (log.settle s.world).world (settle-set s.world)
-outcome-held s Finish = held-world s s.world refl
-outcome-held s (Duo e) = record { last_map = refl; last_routes = refl; adopted = inl refl }
-outcome-held s (PullCommand at) = held-world s (step s.world (Pull at)).1 (event-set s.world (Pull at))
-outcome-held s (PlugCommand a b) = held-world s (step s.world (Plug a b)).1 (event-set s.world (Plug a b))
-outcome-held s Revoke = held-world s (steps s.world (revocations s.world)).1 (revoked-set s.world)
-outcome-held s Broken = held-world s s.world refl
 
 -- hosts by address are below the number of hosts
 rising-below : (start count most : ℕ) → start + count ≤ most → AllByRecursion (λ h. h < most) (range_with_len start count)
@@ -144,26 +57,10 @@ filter-few p (x ∷ xs) = by (p x) (filter-few p xs)
     by true rest = omega arith
     by false rest = omega arith
 
-range-length : (start count : ℕ) → length (range_with_len start count) ≡ count
-range-length start zero = refl
-range-length start (suc count) = let rest = range-length (start + 1) count in omega arith
-
 -- The hosts of routes are hosts of the fabric, no more than it has.
 pub record HasHosts (n : Network) (l : LastRoutes) : Type 0 where
   pub all : AllByRecursion (λ h. h < length n.hosts) l.hosts
   pub few : length l.hosts ≤ length n.hosts
-
--- what is of the hosts of a fabric is of any with the same hosts
-vertex-of : (n k : Network) (v : MapVertex) → n.hosts ≡ k.hosts → IsOfFabric n v → IsOfFabric k v
-vertex-of n k (HostVertex a) same is = subst (λ hs. a < length hs) same is
-vertex-of n k (SwitchVertex s) same is = is
-
-vertices-of : (n k : Network) (vs : List MapVertex) → n.hosts ≡ k.hosts → AllByRecursion (IsOfFabric n) vs → AllByRecursion (IsOfFabric k) vs
-vertices-of n k [] same all = tt
-vertices-of n k (v ∷ vs) same all = (vertex-of n k v same all.0, vertices-of n k vs same all.1)
-
-printable-of : (n k : Network) (m : NetMap) → n.hosts ≡ k.hosts → IsPrintable n m → IsPrintable k m
-printable-of n k m same is = record { rules = is.rules; hosts = vertices-of n k m.vertices same is.hosts; few_vertices = is.few_vertices; few_cables = is.few_cables }
 
 -- A map has a host of the fabric for its mapper, and can be printed over the fabric.
 pub record IsKept (n : Network) (l : LastMap) : Type 0 where
@@ -174,12 +71,9 @@ pub count-of : (n : Network) (s : SessionState) → IsSessionOf n s → host_cou
 count-of n s is = is.world.hosts ∙ ap (λ (x : Network). length x.hosts) is.first
 
 -- as the text has hosts
-host-tested : (h count : ℕ) → h < count → nat_lt h count ≡ true
-host-tested h count low = grind (arith, nat_tests)
-
 pub all-hosts : (n : Network) (hs : List ℕ) → AllByRecursion (λ h. h < length n.hosts) hs → AllByRecursion (IsHost n) hs
 all-hosts n [] all = tt
-all-hosts n (h ∷ hs) all = (host-tested h (length n.hosts) all.0, all-hosts n hs all.1)
+all-hosts n (h ∷ hs) all = (host-there n h all.0, all-hosts n hs all.1)
 
 -- Routes between hosts of the fabric, by walks, that rise.
 pub record AreFine (n : Network) (rs : List Route) : Type 0 where
@@ -217,7 +111,7 @@ computed-hosts n s r l m is own e =
     let test : ℕ → Bool = λ h. list_any (nat_eq h) (hosts_of m.vertices) in
     let low : host_count s.world ≤ length n.hosts = omega arith in
     let few = filter-few (λ h. list_any (nat_eq h) (hosts_of m.vertices)) (range_with_len 0 (host_count s.world)) in
-    let whole = range-length 0 (host_count s.world) in
+    let whole = length-range_with_len 0 (host_count s.world) in
     let same : length r.hosts ≡ length (hosts_by_address s.world m) = ap length own in
     subst (HasHosts n) one (record {
       all = subst (AllByRecursion (λ h. h < length n.hosts)) (sym own) (filter-all (λ h. h < length n.hosts) (λ h. list_any (nat_eq h) (hosts_of m.vertices)) (range_with_len 0 (host_count s.world)) (rising-below 0 (host_count s.world) (length n.hosts) (omega arith)));
@@ -242,7 +136,7 @@ few-switches n s l f is right h complete =
     let k : Network = fabric_at s.world.links.cables l.began in
     let was = right.complete l complete in
     let kept = h.map l (last-complete s.last_map l complete) in
-    let there : has_vertex k (Host l.mapper) ≡ true = subst (λ hs. nat_lt l.mapper (length hs) ≡ true) (sym (ap (λ (x : Network). x.hosts) is.first)) (host-tested l.mapper (length n.hosts) kept.mapper) in
+    let there : has_vertex k (Host l.mapper) ≡ true = subst (λ hs. nat_lt l.mapper (length hs) ≡ true) (sym (ap (λ (x : Network). x.hosts) is.first)) (host-there n l.mapper kept.mapper) in
     let small = right_map_is_no_larger k l.mapper l.made (is.history.fabrics l.began) there was.right.right in
     let most = (is.history.fabrics l.began).few_switches in
     let few = small.switches in
@@ -258,10 +152,10 @@ routes-fine n s l found f is right h complete are =
       rising = are.in_order;
     }
 
-keeps-fine : {s next : SessionState} {c : Command} {out : List Piece} → (n : Network) → IsFabric n → IsCommandOf n c → IsSessionOf n s → HoldsRight s → HoldsFine n s → Does s c out next → HoldsFine n next
-keeps-fine {s = s} {next = next} {c = c} n f of_n is right h (determined e) = held-fine n s next (subst (HeldIn s) e (outcome-held s c)) h
-keeps-fine {s = s} {next = next} n f of_n is right h (maps {host = host} {depth = depth} {tries = tries} after j m words none made printed left) =
-    let can = can-map-now n s host depth tries of_n is none in
+fine-so : {s next : SessionState} {c : Command} {out : List Piece} → (n : Network) → IsFabric n → IsCommandOf n c → IsSessionOf n s → HoldsRight s → HoldsFine n s → Doing s c out next → HoldsFine n next
+fine-so {s = s} {next = next} {c = c} {out = out} n f of_n is right h (determined e) = held-fine n s next (outcome-held s c (record { output = out; after = next }) e) h
+fine-so {s = s} {next = next} n f of_n is right h (maps {host = host} {depth = depth} {tries = tries} after j m words idle made printed left) =
+    let can = can-map-now n s host depth tries of_n is idle in
     let r : LastMap = record { mapper = host; words = words; made = m; began = s.world.links.cables.changes } in
     let set = (mapping_keeps host depth tries s.world after j m words can made).0.adopted in
     let printable = made_map_is_printable host depth tries s.world after j m words can made in
@@ -271,8 +165,8 @@ keeps-fine {s = s} {next = next} n f of_n is right h (maps {host = host} {depth 
       routes = h.routes;
       adopted = λ a e. h.adopted a (sym set ∙ e);
     })
-keeps-fine n f of_n is right h (circuits told left) = subst (HoldsFine n) (sym left) h
-keeps-fine {s = s} n f of_n is right h (routes l found complete are printed left) =
+fine-so n f of_n is right h (circuits told left) = subst (HoldsFine n) (sym left) h
+fine-so {s = s} n f of_n is right h (routes l found complete are printed left) =
     let r : LastRoutes = record { mapper = l.mapper; hosts = hosts_by_address s.world l.made; routes = found; began = l.began } in
     subst (HoldsFine n) (sym left) (record {
       map = h.map;
@@ -283,7 +177,7 @@ keeps-fine {s = s} n f of_n is right h (routes l found complete are printed left
 
 runs-fine : {s last : SessionState} {cs : List Command} {out : List Piece} → (n : Network) → IsFabric n → AllByRecursion (IsCommandOf n) cs → IsSessionOf n s → HoldsRight s → HoldsFine n s → Runs s cs out last → HoldsFine n last
 runs-fine n f all is right h ended = h
-runs-fine n f all is right h (goes_on d r e) = runs-fine n f all.1 (does-stays n all.0 is d) (does-hold n all.0 is right d) (keeps-fine n f all.0 is right h d) r
+runs-fine n f all is right h (goes_on d r e) = runs-fine n f all.1 (does-stays n all.0 is d) (does-hold n all.0 is right d) (fine-so n f all.0 is right h (doing d)) r
 
 -- so it is after every run
 pub run-fine : (n : Network) (commands : List Command) (out : List Piece) (s : SessionState) → IsFabric n → AllByRecursion (IsCommandOf n) commands → IsRun n commands out s → HoldsFine n s

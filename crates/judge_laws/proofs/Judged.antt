@@ -1,5 +1,5 @@
 -- Whatever a run without the two hosts that restart prints is judged yes.
-use Rattle.std.proofs.Common.{◌≡◌, ◌++◌, ℕ, true, List, [], ◌∷◌, length, replicate, get_or, Option, Some, None, refl, sym, ap, ◌∙◌, subst, true≢false}
+use Rattle.std.proofs.Common.{◌≡◌, ◌++◌, ℕ, true, List, [], ◌∷◌, length, replicate, get_or, Option, Some, None, option_map, refl, sym, ap, ◌∙◌, subst, true≢false, if◌then◌else◌}
 use Rattle.std.specs.List.{AllByRecursion}
 use Rattle.net_defs.specs.Network.{Network, IsFabric}
 use Rattle.cable_history.proofs.First.{first_stands}
@@ -10,19 +10,23 @@ use Rattle.fab_script.specs.Ranges.{IsCommandOf}
 use Rattle.world_defs.specs.declared.event.Event.TheVariants.{Begin as BeginEvent, Close as CloseEvent, Provide as ProvideEvent, Send as SendEvent, Poll as PollEvent}
 use Rattle.world_defs.specs.Client.{Called, begun, closed, provided_by, sent_by, polled_by}
 use Rattle.world_defs.specs.Node.{new_node, port_at, port_count}
-use Rattle.world_defs.specs.World.{new_world, node_at, client_at}
+use Rattle.world_defs.specs.declared.effect.Effect.{Effect}
+use Rattle.world_defs.specs.World.{WorldState, new_world, node_at, client_at}
 use Rattle.world_defs.specs.Step.{wanted, step}
 use Rattle.world_defs.proofs.Lists.{each-replicate}
 use Rattle.run_defs.specs.declared.command.Command.{Command}
 use Rattle.run_defs.specs.declared.command.Command.TheVariants.{Walk, Map, Circuit, Routes, Install, Begin, Close, Poll, Tokens, Provide, Send, Plan, Step, Settle, Finish, Duo, Pull, Plug, Revoke, Broken}
+use Rattle.run_defs.specs.declared.line.Line.TheVariants.{MapBusy}
+use Rattle.run_defs.specs.declared.line.ClientCall.{ClientCall}
 use Rattle.run_defs.specs.declared.line.ClientCall.TheVariants.{Begin as BeginCall, Close as CloseCall, Provide as ProvideCall, Send as SendCall, Poll as PollCall}
 use Rattle.run_defs.specs.LineText.{output_text}
-use Rattle.run_defs.specs.Outcome.{Outcome, called, says_only, token_lines, outcome}
-use Rattle.run_defs.specs.Output.{Piece}
+use Rattle.run_defs.specs.Deed.{says}
+use Rattle.run_defs.specs.Outcome.{Outcome, client_lines, token_lines, routes_refused, seen, outcome}
+use Rattle.run_defs.specs.Output.{Piece, lines}
 use Rattle.run_defs.specs.Session.{SessionState, new_session}
-use Rattle.run_defs.specs.Outcome.{routes_refused}
 use Rattle.run_defs.specs.Run.{Does, Runs, IsRun}
-use Rattle.run_defs.specs.Run.Does.{determined, maps, circuits, routes}
+use Rattle.run_defs.proofs.Doing.{Doing, doing, does}
+use Rattle.run_defs.proofs.Doing.Doing.{determined, maps, circuits, routes}
 use Rattle.run_defs.specs.Run.Runs.{ended as run_ended, goes_on as run_goes_on}
 use Rattle.run_laws.proofs.RunsOnce.{runs-more, text_of_both}
 use Rattle.answer_defs.specs.Answer.{Answered, answered}
@@ -40,15 +44,20 @@ use Rattle.judge_laws.proofs.Messages.{none-messages}
 use Rattle.judge_laws.proofs.Ports.{open_by}
 use Rattle.judge_laws.proofs.Tracked.{IsFollowed, IsNext, network-next}
 
+-- a client's call, by its effect and the world then
+abbrev called : SessionState → ClientCall → ℕ → ℕ → Effect × WorldState → Outcome
+called s call h port r = record { output = lines (client_lines call h port r.0); after = record s { world = r.1 } }
+
 -- what a command does where it is determined
-as-done : {s next : SessionState} {c : Command} {out : List Piece} → Does s c out next → (o : Outcome) → outcome s c ≡ Some o → (out ≡ o.output) × (next ≡ o.after)
-as-done {next = next} {out = out} (determined e) o g =
+as-so : {s next : SessionState} {c : Command} {out : List Piece} → Doing s c out next → (o : Outcome) → outcome s c ≡ Some o → (out ≡ o.output) × (next ≡ o.after)
+as-so {next = next} {out = out} (determined e) o g =
     let one : ◌≡◌ {A = Option Outcome} (Some (record { output = out; after = next })) (Some o) = sym e ∙ g in
     let same : ◌≡◌ {A = Outcome} (record { output = out; after = next }) o = cc in
     (ap (λ (x : Outcome). x.output) same, ap (λ (x : Outcome). x.after) same)
-as-done (maps after j m words none made is left) o g = let one : ◌≡◌ {A = Option Outcome} None (Some o) = sym none ∙ g in cc
-as-done (circuits is left) o g = cc
-as-done {s = s} (routes l found complete are is left) o g = let one : ◌≡◌ {A = Option Outcome} None (Some o) = ap (routes_refused s) (sym complete) ∙ g in cc
+as-so {s = s} (maps {host = host} after j m words idle made is left) o g =
+    let one : ◌≡◌ {A = Option Outcome} None (Some o) = sym (ap (λ b. option_map (seen s) (if b then None else Some (says (MapBusy host ∷ [])))) idle) ∙ g in cc
+as-so (circuits is left) o g = cc
+as-so {s = s} (routes l found complete are is left) o g = let one : ◌≡◌ {A = Option Outcome} None (Some o) = ap (λ x. option_map (seen s) (routes_refused x)) (sym complete) ∙ g in cc
 
 as-next : (n : Network) (front : List Command) (done : List Piece) (before : List Answered) (c : Command) (out : List Piece) (next : SessionState) (o : Outcome) → (out ≡ o.output) × (next ≡ o.after) → IsNext n front done before c o.output o.after → IsNext n front done before c out next
 as-next n front done before c out next o e x = subst (λ y. IsNext n front done before c y next) (sym e.0) (subst (IsNext n front done before c o.output) (sym e.1) x)
@@ -58,31 +67,31 @@ module _ (n : Network) (front : List Command) (done : List Piece) (before : List
   command-next (Begin h port sends recvs) of_n d kind safe =
       let o = called s BeginCall h port (step s.world (BeginEvent h port sends recvs)) in
       let call : Called = begun (node_at s.world h) port sends recvs (client_at s.world h port) in
-      as-next n front done before (Begin h port sends recvs) out next o (as-done d o refl)
-      (call-next n front done before s f all run k h port of_n.0 of_n.1.1 (Begin h port sends recvs) BeginCall call of_n refl (begun-is (node_at s.world h) (client_at s.world h port) h port sends recvs) (determined refl))
+      as-next n front done before (Begin h port sends recvs) out next o (as-so (doing d) o refl)
+      (call-next n front done before s f all run k h port of_n.0 of_n.1.1 (Begin h port sends recvs) BeginCall call of_n refl (begun-is (node_at s.world h) (client_at s.world h port) h port sends recvs) (does (determined refl)))
   command-next (Close h port) of_n d kind safe =
       let o = called s CloseCall h port (step s.world (CloseEvent h port)) in
       let call : Called = closed (node_at s.world h) port (client_at s.world h port) in
-      as-next n front done before (Close h port) out next o (as-done d o refl)
-      (call-next n front done before s f all run k h port of_n.0 of_n.1.1 (Close h port) CloseCall call of_n refl (closed-is (node_at s.world h) (client_at s.world h port) h port) (determined refl))
+      as-next n front done before (Close h port) out next o (as-so (doing d) o refl)
+      (call-next n front done before s f all run k h port of_n.0 of_n.1.1 (Close h port) CloseCall call of_n refl (closed-is (node_at s.world h) (client_at s.world h port) h port) (does (determined refl)))
   command-next (Poll h port) of_n d kind safe =
       let o = called s PollCall h port (step s.world (PollEvent h port)) in
       let call : Called = polled_by (node_at s.world h) port (client_at s.world h port) in
-      as-next n front done before (Poll h port) out next o (as-done d o refl)
-      (call-next n front done before s f all run k h port of_n.0 of_n.1.1 (Poll h port) PollCall call of_n refl (polled-is (node_at s.world h) h port (client_at s.world h port)) (determined refl))
+      as-next n front done before (Poll h port) out next o (as-so (doing d) o refl)
+      (call-next n front done before s f all run k h port of_n.0 of_n.1.1 (Poll h port) PollCall call of_n refl (polled-is (node_at s.world h) h port (client_at s.world h port)) (does (determined refl)))
   command-next (Tokens h port) of_n d kind safe =
-      let o = says_only s (token_lines h port (port_at (node_at s.world h) port)) in
-      as-next n front done before (Tokens h port) out next o (as-done d o refl) (tokens-next n front done before s f all run k h port of_n.0 of_n.1.1 of_n (determined refl))
+      let o = seen s (says (token_lines h port (port_at (node_at s.world h) port))) in
+      as-next n front done before (Tokens h port) out next o (as-so (doing d) o refl) (tokens-next n front done before s f all run k h port of_n.0 of_n.1.1 of_n (does (determined refl)))
   command-next (Provide h port size prio) of_n d kind safe =
       let o = called s ProvideCall h port (step s.world (ProvideEvent h port size prio)) in
       let call : Called = provided_by (node_at s.world h) port size prio (client_at s.world h port) in
-      as-next n front done before (Provide h port size prio) out next o (as-done d o refl)
-      (call-next n front done before s f all run k h port of_n.0 of_n.1.1 (Provide h port size prio) ProvideCall call of_n refl (provided-is (node_at s.world h) h port (client_at s.world h port) size prio) (determined refl))
+      as-next n front done before (Provide h port size prio) out next o (as-so (doing d) o refl)
+      (call-next n front done before s f all run k h port of_n.0 of_n.1.1 (Provide h port size prio) ProvideCall call of_n refl (provided-is (node_at s.world h) h port (client_at s.world h port) size prio) (does (determined refl)))
   command-next (Send h port dest dport prio len seed) of_n d kind safe =
       let o = called s SendCall h port (step s.world (SendEvent h port dest dport prio len seed)) in
       let call : Called = sent_by (node_at s.world h) (wanted port dest dport prio len seed) (client_at s.world h port) in
-      as-next n front done before (Send h port dest dport prio len seed) out next o (as-done d o refl)
-      (call-next n front done before s f all run k h port of_n.0 of_n.2.1 (Send h port dest dport prio len seed) SendCall call of_n refl (sent-is (node_at s.world h) h port (client_at s.world h port) dest dport prio len seed) (determined refl))
+      as-next n front done before (Send h port dest dport prio len seed) out next o (as-so (doing d) o refl)
+      (call-next n front done before s f all run k h port of_n.0 of_n.2.1 (Send h port dest dport prio len seed) SendCall call of_n refl (sent-is (node_at s.world h) h port (client_at s.world h port) dest dport prio len seed) (does (determined refl)))
   command-next (Duo event) of_n d kind safe = absurd (true≢false (sym kind))
   command-next (Walk host walk) of_n d kind safe = network-next n front done before s next (Walk host walk) out f good all of_n run k d refl safe
   command-next (Map host depth tries) of_n d kind safe = network-next n front done before s next (Map host depth tries) out f good all of_n run k d refl safe

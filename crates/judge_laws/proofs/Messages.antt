@@ -1,9 +1,11 @@
 -- What the answers tell of messages is what the lines of a run show of them: those received on a lane, and those sent.
-use Rattle.std.proofs.Common.{◌≡◌, ◌<◌, ◌≤◌, ◌+◌, ◌%◌, ◌^◌, ◌&&◌, ℕ, zero, suc, Bool, true, false, cond, List, [], ◌∷◌, ◌++◌, map, length, min, nat_eq, nat_lt, refl, sym, ap, ◌∙◌, subst, append_assoc, append-nil, true≢false, arith, if◌then◌else◌}
+use Rattle.std.proofs.Common.{◌≡◌, ◌<◌, ◌≤◌, ◌+◌, ◌%◌, ◌^◌, ◌&&◌, ℕ, Bool, true, false, cond, List, [], ◌∷◌, ◌++◌, map, length, min, nat_eq, nat_lt, refl, sym, ap, ◌∙◌, subst, append_assoc, append-nil, true≢false, arith, if◌then◌else◌}
 use Rattle.std.specs.List.{AllByRecursion, filter, range_with_len}
 use Rattle.std.proofs.lemmas.Bool.Decides.{nat_tests, Decides-eqb}
 use Rattle.std.proofs.lemmas.List.{length-map}
+use Rattle.std.proofs.lemmas.List.FromFn.{length-range_with_len}
 use Rattle.net_defs.specs.Network.{Network}
+use Rattle.net_defs.proofs.Distinct.{all-weaker}
 use Rattle.journal_defs.proofs.Members.{all-join}
 use Rattle.gm_defs.specs.declared.message.Message.{Message}
 use Rattle.gm_defs.specs.declared.frame.ConnectionKey.{ConnectionKey}
@@ -26,13 +28,11 @@ use Rattle.run_defs.specs.Output.{Piece, OneLine, MapLines}
 use Rattle.seen_laws.specs.Handed.{Handed, IsOfConnection, is_on, is_to, as_handed, in_send}
 use Rattle.promise_laws.specs.ReceivedLines.{received_in_line, received_in, send_answer, send_answers, is_send, accepted_as, accepted_by_lines, accepted_of, AreReceivedAsSent}
 use Rattle.judge_laws.specs.Lines.{IsCounted, AreBytes}
+use Rattle.judge_laws.proofs.Names.{host-there}
 
 -- a number equals itself
 pub same-number : (t : ℕ) → nat_eq t t ≡ true
 same-number t = (Decides-eqb t t).1 refl
-
-host-tested : (h count : ℕ) → h < count → nat_lt h count ≡ true
-host-tested h count low = grind (arith, nat_tests)
 
 -- A message that a line shows is from a host of the fabric, from a port and of a priority that it may have, and its
 -- bytes are bytes.
@@ -180,12 +180,8 @@ below-256 : (first : ℕ) (is : List ℕ) → AllByRecursion (λ b. b < 256) (ma
 below-256 first [] = tt
 below-256 first (i ∷ is) = (omega arith, below-256 first is)
 
-range-length : (start count : ℕ) → length (range_with_len start count) ≡ count
-range-length start zero = refl
-range-length start (suc count) = let rest = range-length (start + 1) count in omega arith
-
 counted-length : (first len : ℕ) → length (counted first len) ≡ len
-counted-length first len = length-map (range_with_len 0 len) (λ i. (first + i) % 256) ∙ range-length 0 len
+counted-length first len = length-map (range_with_len 0 len) (λ i. (first + i) % 256) ∙ length-range_with_len 0 len
 
 -- what a `send` hands in on a connection is fine
 accepted-fine : (n : Network) (c : ConnectionKey) (cmd : Command) (said : Said) → IsCommandOf n cmd → c.prio < prio_limit → AllByRecursion (IsFine c.prio) (accepted_as c cmd said)
@@ -225,10 +221,6 @@ filter-all P p (x ∷ xs) all = by (p x) (filter-all P p xs all.1)
 pub sends-fine : (n : Network) (c : ConnectionKey) (commands : List Command) (out : List Piece) → AllByRecursion (IsCommandOf n) commands → c.prio < prio_limit → AllByRecursion (IsFine c.prio) (accepted_of c commands out)
 sends-fine n c commands out all low = by-lines-fine n c (filter is_send commands) (send_answers out) (filter-all (IsCommandOf n) is_send commands all) low
 
-weaker : {X : Type 0} (P Q : X → Type 0) (xs : List X) → ((x : X) → P x → Q x) → AllByRecursion P xs → AllByRecursion Q xs
-weaker P Q [] f all = tt
-weaker P Q (x ∷ xs) f all = (f x all.0, weaker P Q xs f all.1)
-
 -- so messages are in order on every lane
 pub in-order : (n : Network) (commands : List Command) (out : List Piece) (after : WorldState) (past : List Told) → AllByRecursion (IsCommandOf n) commands → AreReceivedAsSent n commands out after → AreMessagesTold commands out past → AreInOrder past
 in-order n commands out after past of_n facts told = record { each = each }
@@ -238,7 +230,7 @@ in-order n commands out after past of_n facts told = record { each = each }
         let fine = sends-fine n (connection k) commands out of_n low in
         let acc = accepted_of (connection k) commands out in
         let front = prefix-map (on k) (filter (is_on k.from k.prio) (received_in k.to k.port out)) (map (as_handed k.from) (filter (is_to k.port) acc)) (facts.front (connection k) k.port low) in
-        let whole = lane-back k acc (weaker (IsFine k.prio) (λ m. m.prio ≡ k.prio) acc (λ m f. f.of_prio) fine) ∙ sym (told.sent k low) in
+        let whole = lane-back k acc (all-weaker (IsFine k.prio) (λ m. m.prio ≡ k.prio) acc (λ m f. f.of_prio) fine) ∙ sym (told.sent k low) in
         subst (λ l. IsPrefix l (sent_told k past)) (sym (told.received k)) (subst (IsPrefix (map (on k) (filter (is_on k.from k.prio) (received_in k.to k.port out)))) whole front)
 
     each : (k : Lane) → IsPrefix (received_told k past) (sent_told k past)
@@ -286,7 +278,7 @@ last-shown n commands out after h port x before of_n facts e =
     let is = facts.front c port one.priority in
     let shown = on-one ShownAs x before (subst (λ xs. AllByRecursion ShownAs (filter (is_on x.from x.prio) xs)) e (front-all ShownAs (filter (is_on x.from x.prio) (received_in h port out)) is.rest (subst (AllByRecursion ShownAs) is.both all))) in
     record {
-      sender = host-tested x.from (length n.hosts) one.from_host;
+      sender = host-there n x.from one.from_host;
       of_port = shown.0;
       of_prio = (let low = one.priority in omega arith);
       long = shown.1;

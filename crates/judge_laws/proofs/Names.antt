@@ -1,5 +1,5 @@
 -- Printed names of hosts, ends and vertices, and printed turns, are read again.
-use Rattle.std.proofs.Common.{◌≡◌, ◌≤◌, ◌^◌, ◌-◌, ◌&&◌, ℕ, List, [], ◌∷◌, Bool, true, false, map, length, nat_eq, nat_lt, nat_le, Some, None, option_map, refl, ap, ◌∙◌, arith, if◌then◌else◌}
+use Rattle.std.proofs.Common.{◌≡◌, ◌<◌, ◌≤◌, ◌^◌, ◌-◌, ℕ, List, [], ◌∷◌, Bool, true, false, map, length, nat_lt, nat_le, Some, None, option_map, refl, ap, ◌∙◌, arith, if◌then◌else◌}
 use Rattle.std.specs.Prelude.{ℤ, decimal, option_and_then}
 use Rattle.std.specs.List.{AllByRecursion, list_all}
 use Rattle.std.proofs.lemmas.Bool.Decides.{nat_tests}
@@ -13,28 +13,28 @@ use Rattle.net_defs.specs.declared.walk.WalkFault.TheVariants.{TooLong, TurnRang
 use Rattle.net_defs.proofs.Ends.{both}
 use Rattle.map_defs.specs.declared.vertex.MapVertex.{MapVertex}
 use Rattle.map_defs.specs.declared.vertex.MapVertex.TheVariants.{Host as MapHost, Switch as MapSwitch}
-use Rattle.fab_text.specs.Word.{name_test, is_letter, is_name_byte}
+use Rattle.fab_text.specs.Word.{name_test}
 use Rattle.fabric_file.specs.Reading.{AreNamed}
 use Rattle.fabric_file.proofs.Names.{name-names, port-small, vertex-there}
+use Rattle.fabric_file.proofs.PlainLines.{is_plain}
+use Rattle.fabric_file.proofs.PlainWords.{name-no_sign, name-plain}
 use Rattle.fab_script.specs.Ranges.{IsHost, IsEnd}
 use Rattle.run_defs.specs.LineText.{host_name, turn_text, vertex_text}
-use Rattle.map_canon.proofs.Lines.{is_plain}
-use Rattle.map_canon.proofs.Words.{name-plain, turn-read, turn-plain, switch-plain}
+use Rattle.map_canon.proofs.Words.{turn-read, turn-plain, switch-plain}
 use Rattle.line_forms.specs.Words.{where_read, address_in, host_said, end_in, end_said, turn_said, number_said, vertex_said}
 use Rattle.line_forms.specs.Forms.{turns_said}
 use Rattle.judge_laws.specs.Lines.{IsVertexIn}
 use Rattle.judge_laws.proofs.Numbers.{within-read, counted-read}
 
--- a name doesn't begin with `#`
-letter-no_sign : (b : ℕ) → is_letter b ≡ true → nat_eq b 35 ≡ false
-letter-no_sign b e = grind (arith, nat_tests)
+-- an address below the number of hosts is a host's
+pub host-there : (n : Network) (h : ℕ) → h < length n.hosts → IsHost n h
+host-there n h low = grind (arith, nat_tests)
 
+-- a name doesn't begin with `#`
 named-vertex : (n : Network) (w : List ℕ) → name_test w ≡ true → vertex_said n w ≡ option_map MapHost (host_said n w)
 named-vertex n [] e = refl
 named-vertex n (b ∷ bs) e =
-    let sizes : Bool = nat_le 1 (length (b ∷ bs)) && nat_le (length (b ∷ bs)) 16 in
-    let letter : is_letter b ≡ true = (both sizes (is_letter b) (both (sizes && is_letter b) (list_all is_name_byte (b ∷ bs)) e).0).1 in
-    let other = letter-no_sign b letter in
+    let other = name-no_sign b bs e in
     λ i. if other i then option_map MapSwitch (number_said (2 ^ 32 - 1) bs) else option_map MapHost (host_said n (b ∷ bs))
 
 -- over a fabric with names of the text's form
@@ -66,7 +66,7 @@ module _ (n : Network) (is : IsFabric n) (good : AreNamed n) where
 
   pub map_vertex-plain : (v : MapVertex) → IsVertexIn n v → is_plain (vertex_text n v) ≡ true
   map_vertex-plain (MapHost h) there = host-plain h there
-  map_vertex-plain (MapSwitch s) small = switch-plain s small
+  map_vertex-plain (MapSwitch s) small = switch-plain s
 
 -- turns
 pub port-read : (p : ℤ) → IsTurn p → turn_said (turn_text p) ≡ Some p
@@ -79,9 +79,9 @@ turns-read (t ∷ ts) all =
     let rest = turns-read ts all.1 in
     λ i. option_and_then (λ u. option_and_then (λ us. Some (u ∷ us)) (rest i)) (first i)
 
-pub turns-plain : (ts : List ℤ) → AllByRecursion IsTurn ts → AllByRecursion (λ w. is_plain w ≡ true) (map turn_text ts)
-turns-plain [] all = tt
-turns-plain (t ∷ ts) all = (turn-plain t all.0, turns-plain ts all.1)
+pub turns-plain : (ts : List ℤ) → AllByRecursion (λ w. is_plain w ≡ true) (map turn_text ts)
+turns-plain [] = tt
+turns-plain (t ∷ ts) = (turn-plain t, turns-plain ts)
 
 all-turns : (ts : List ℤ) → list_all is_turn ts ≡ true → AllByRecursion IsTurn ts
 all-turns [] e = tt

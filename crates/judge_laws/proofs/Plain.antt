@@ -6,34 +6,34 @@ use Rattle.net_defs.specs.declared.place.Place.{Place}
 use Rattle.net_defs.specs.declared.place.Place.TheVariants.{Host as AtHost, Switch as AtSwitch, Nothing as Stuck}
 use Rattle.net_defs.specs.Network.{Network, IsFabric}
 use Rattle.world_defs.specs.declared.effect.Cause.{Cause}
-use Rattle.world_defs.specs.declared.effect.Cause.TheVariants.{OutOfRange, NotRoute, NoCable, NewCable, BadCrc, RouteLeft, UnknownType, Malformed, NotMine}
+use Rattle.world_defs.specs.declared.effect.Cause.TheVariants.{OutOfRange}
 use Rattle.world_defs.specs.declared.effect.Said.{Said}
 use Rattle.world_defs.specs.declared.client.ClientCause.{ClientCause}
 use Rattle.world_defs.specs.declared.heard.Heard.{Heard}
-use Rattle.world_defs.specs.declared.heard.Heard.TheVariants.{Probe, Reply, Loop, Routes as HeardRoutes, RoutesAck, Message, Fragment, NotNext, NoToken as NoTokenFits, Ack}
+use Rattle.world_defs.specs.declared.heard.Heard.TheVariants.{Probe}
 use Rattle.port_ledgers.specs.declared.lane.PortName.{PortName}
 use Rattle.fab_text.specs.Line.{says_nothing}
 use Rattle.fabric_file.specs.Reading.{AreNamed}
 use Rattle.run_defs.specs.declared.line.MapWords.{MapWords}
 use Rattle.run_defs.specs.declared.line.MapWords.TheVariants.{Complete, Doubtful, IncompleteDepth, IncompleteNodes}
 use Rattle.run_defs.specs.declared.line.InstallCause.{InstallCause}
-use Rattle.run_defs.specs.declared.line.InstallCause.TheVariants.{NoRoutes, Busy as LinksBusy, Changed, Installed as OtherInstalled, Epochs}
+use Rattle.run_defs.specs.declared.line.InstallCause.TheVariants.{NoRoutes}
 use Rattle.run_defs.specs.declared.line.PlugWords.TheVariants.{Done as Joined, PortUsed, Full}
 use Rattle.run_defs.specs.declared.line.ClientCall.{ClientCall}
-use Rattle.run_defs.specs.declared.line.ClientCall.TheVariants.{Begin, Close, Provide, Send, Poll, Tokens as TokensCall}
+use Rattle.run_defs.specs.declared.line.ClientCall.TheVariants.{Begin}
 use Rattle.run_defs.specs.declared.line.StepWords.{StepWords}
-use Rattle.run_defs.specs.declared.line.StepWords.TheVariants.{Idle, Injected, Moved, Blocked, Arrived, Dropped, Lost, Reset, Flipped, Expired, GaveUp, Repeated, Held, Replayed}
+use Rattle.run_defs.specs.declared.line.StepWords.TheVariants.{Injected, Moved, Blocked, Arrived, Dropped, Repeated, Held, Replayed}
 use Rattle.run_defs.specs.declared.line.Line.{Line}
 use Rattle.run_defs.specs.LineText.{host_name, client_cause, said_words, heard_word, cause_word, install_cause, call_word, place_text, map_words, walk_words, step_words, words_in}
 use Rattle.line_forms.specs.declared.line.ReportLine.{ReportLine}
-use Rattle.map_canon.proofs.Lines.{is_plain, ArePlain}
+use Rattle.fabric_file.proofs.PlainLines.{is_plain, ArePlain}
+use Rattle.fabric_file.proofs.PlainWords.{number-plain}
 use Rattle.judge_laws.specs.Lines.{Says, CallSays, MayRefuse, IsPlaceIn, AreWordsIn}
 use Rattle.judge_laws.specs.Lines.{begin_already, close_not_open, close_busy, close_unread, close_filling, provide_not_open, provide_no_token, provide_bad_size, send_not_open, send_no_token, send_too_long, send_no_route, send_spent, poll_not_open, tokens_not_open}
 use Rattle.judge_laws.specs.Lines.{opened, closed, provided, accepted, returned, received, nothing_came, refused}
 use Rattle.judge_laws.specs.Lines.{walk_line, map_line, busy_line, circuit_line, nodes_line, routes_line, route_line, rank_line, end_of_routes, no_map, installed_line, table_line, install_refused, call_line, tokens_line, plan_line, step_line, settle_line, finish_line}
 use Rattle.judge_laws.specs.Lines.{pull_line, plug_line, revoked_line, broken_line, broken_names, end_of_broken, no_broken}
-use Rattle.judge_laws.proofs.Numbers.{number-plain}
-use Rattle.judge_laws.proofs.Names.{host-plain, end-plain, map_vertex-plain, turns-plain, walk-turns}
+use Rattle.judge_laws.proofs.Names.{host-plain, end-plain, map_vertex-plain, turns-plain}
 use Rattle.judge_laws.proofs.Bytes.{bytes-plain, places-plain}
 use Rattle.map_canon.proofs.Words.{turn-plain}
 
@@ -45,33 +45,15 @@ all-plain (v ∷ vs) ws p q = (p.0, all-plain vs ws p.1 q)
 -- words of a fixed list
 cause-plain : (cause : InstallCause) → is_plain (install_cause cause) ≡ true
 cause-plain NoRoutes = refl
-cause-plain LinksBusy = refl
-cause-plain Changed = refl
-cause-plain OtherInstalled = refl
-cause-plain Epochs = refl
+cause-plain _ = refl
 
 heard-plain : (heard : Heard) → is_plain (heard_word heard) ≡ true
 heard-plain Probe = refl
-heard-plain (Reply number host) = refl
-heard-plain (Loop number) = refl
-heard-plain HeardRoutes = refl
-heard-plain (RoutesAck epoch host part) = refl
-heard-plain Message = refl
-heard-plain Fragment = refl
-heard-plain NotNext = refl
-heard-plain NoTokenFits = refl
-heard-plain Ack = refl
+heard-plain _ = refl
 
 drop-plain : (cause : Cause) → is_plain (cause_word cause) ≡ true
 drop-plain OutOfRange = refl
-drop-plain NotRoute = refl
-drop-plain NoCable = refl
-drop-plain NewCable = refl
-drop-plain BadCrc = refl
-drop-plain RouteLeft = refl
-drop-plain UnknownType = refl
-drop-plain Malformed = refl
-drop-plain NotMine = refl
+drop-plain _ = refl
 
 map_words-plain : (words : MapWords) → ArePlain (map_words words)
 map_words-plain Complete = (refl, tt)
@@ -98,11 +80,7 @@ refusal-plain call cause tokens_not_open = (refl, tt)
 
 call_word-plain : (call : ClientCall) → is_plain (call_word call) ≡ true
 call_word-plain Begin = refl
-call_word-plain Close = refl
-call_word-plain Provide = refl
-call_word-plain Send = refl
-call_word-plain Poll = refl
-call_word-plain TokensCall = refl
+call_word-plain _ = refl
 
 -- over a fabric with names of the text's form
 module _ (n : Network) (is : IsFabric n) (good : AreNamed n) where
@@ -112,20 +90,15 @@ module _ (n : Network) (is : IsFabric n) (good : AreNamed n) where
   place-plain Stuck there = (refl, tt)
 
   step-plain : (words : StepWords) → AreWordsIn n words → ArePlain (step_words n words)
-  step-plain Idle there = (refl, tt)
   step-plain (Injected k) there = (refl, (number-plain k, tt))
   step-plain (Moved e) there = (refl, (end-plain n is good e there, (number-plain e.p, tt)))
   step-plain (Blocked e) there = (refl, (end-plain n is good e there, (number-plain e.p, tt)))
   step-plain (Arrived h heard) there = (refl, (host-plain n is good h there, (heard-plain heard, tt)))
   step-plain (Dropped cause) there = (refl, (drop-plain cause, tt))
-  step-plain Lost there = (refl, tt)
-  step-plain Reset there = (refl, tt)
-  step-plain Flipped there = (refl, tt)
-  step-plain Expired there = (refl, tt)
-  step-plain GaveUp there = (refl, tt)
   step-plain (Repeated serial) there = (refl, (number-plain serial, tt))
   step-plain (Held serial) there = (refl, (number-plain serial, tt))
   step-plain (Replayed e) there = (refl, (end-plain n is good e there, (number-plain e.p, tt)))
+  step-plain _ there = (refl, tt)
 
   said-plain : (a : PortName) (call : ClientCall) (said : Said) (r : ReportLine) → CallSays n a call said r → ArePlain (said_words n said)
   said-plain a call said r opened = (refl, tt)
@@ -147,8 +120,8 @@ module _ (n : Network) (is : IsFabric n) (good : AreNamed n) where
   line-plain l r (circuit_line h depth a there fits) = (refl, (host-plain n is good h there, (refl, (number-plain depth, (refl, (number-plain a, tt))))))
   line-plain l r (nodes_line h a there) = (refl, (host-plain n is good h there, (refl, (refl, (number-plain a, tt)))))
   line-plain l r (routes_line count fits) = (refl, (number-plain count, tt))
-  line-plain l r (route_line from to walk sender receiver fine) = (refl, (host-plain n is good from sender, (host-plain n is good to receiver, turns-plain walk (walk-turns walk fine).1)))
-  line-plain l r (rank_line v p rank there turn fits) = (refl, (map_vertex-plain n is good v there, (turn-plain p turn, (number-plain rank, tt))))
+  line-plain l r (route_line from to walk sender receiver fine) = (refl, (host-plain n is good from sender, (host-plain n is good to receiver, turns-plain walk)))
+  line-plain l r (rank_line v p rank there turn fits) = (refl, (map_vertex-plain n is good v there, (turn-plain p, (number-plain rank, tt))))
   line-plain l r end_of_routes = (refl, tt)
   line-plain l r no_map = (refl, (refl, (refl, tt)))
   line-plain l r (installed_line acked count fits) = (refl, (number-plain acked, (refl, (number-plain count, tt))))
@@ -176,11 +149,7 @@ module _ (n : Network) (is : IsFabric n) (good : AreNamed n) where
 
 call-begins : (call : ClientCall) (ws : List (List ℕ)) → says_nothing (call_word call ∷ ws) ≡ false
 call-begins Begin ws = refl
-call-begins Close ws = refl
-call-begins Provide ws = refl
-call-begins Send ws = refl
-call-begins Poll ws = refl
-call-begins TokensCall ws = refl
+call-begins _ ws = refl
 
 -- the first word of a printed line begins no comment
 pub line-begins : (n : Network) (l : Line) (r : ReportLine) → Says n l r → says_nothing (words_in n l) ≡ false

@@ -16,13 +16,14 @@ use Rattle.map_defs.specs.NetMap.{NetMap, MapPort, IsMap, port_below, map_far}
 use Rattle.map_defs.specs.Orientation.{IsOrder, is_up}
 use Rattle.map_defs.specs.Ranks.{ports_at, ports_at_all, channels_in, rank_by, ranks_of}
 use Rattle.fabric_file.proofs.Names.{all-nth}
-use Rattle.fab_script.specs.Ranges.{IsHost}
 use Rattle.map_canon.specs.Printing.{IsOfFabric, AreOfFabric}
-use Rattle.map_canon.proofs.ReadBack.{map-numbered}
+use Rattle.map_canon.proofs.ReadBack.{map-numbered, there-at}
 use Rattle.map_canon.proofs.Words.{found-host, found-switch, number-most}
 use Rattle.judge_defs.specs.Form.{vertex_told}
 use Rattle.judge_laws.specs.Lines.{IsVertexIn}
 use Rattle.judge_laws.specs.Answers.{IsRankIn, AreRanksRising}
+use Rattle.judge_laws.proofs.Names.{host-there}
+use Rattle.judge_laws.proofs.RouteWalks.{AreNumbersRising}
 
 -- each of these stands below all that follow it
 abbrev AreRising : List MapPort → Type 0
@@ -91,11 +92,6 @@ vertex-all : (P : MapPort → Type 0) (v : ℕ) (ps : List ℤ) → ((p : ℤ) �
 vertex-all P v [] each = tt
 vertex-all P v (p ∷ ps) each = (each p, vertex-all P v ps each)
 
--- vertices that rise
-abbrev AreNumbersRising : List ℕ → Type 0
-AreNumbersRising [] = Unit {0}
-AreNumbersRising (v ∷ vs) = AllByRecursion (λ w. v < w) vs × AreNumbersRising vs
-
 lower-vertex : (v w : ℕ) (p q : ℤ) → v < w → port_below (at_vertex v p) (at_vertex w q) ≡ true
 lower-vertex v w p q low = let less : nat_lt v w ≡ true = grind (arith, nat_tests) in λ i. less i || (nat_eq v w && int_lt p q)
 
@@ -145,17 +141,9 @@ index-low count [] i all = omega arith
 index-low count (x ∷ xs) zero all = let l = all.0 in omega arith
 index-low count (x ∷ xs) (suc i) all = index-low count xs i all.1
 
-there-at : (vs : List MapVertex) (v : ℕ) → v < length vs → (x : MapVertex) × (slice_get vs v ≡ Some x)
-there-at [] v l = absurd (omega arith)
-there-at (x ∷ vs) zero l = (x, refl)
-there-at (x ∷ vs) (suc v) l = there-at vs v (omega arith)
-
-below-host : (n : Network) (h : ℕ) → h < length n.hosts → IsHost n h
-below-host n h low = grind (arith, nat_tests)
-
 module _ (n : Network) (m : NetMap) (order : List ℕ) (rules : IsMap m) (of : AreOfFabric n m) (few : length m.vertices < 2 ^ 32) (is : IsOrder order (length m.vertices)) where
   vertex-in : (v : ℕ) (x : MapVertex) → slice_get m.vertices v ≡ Some x → IsVertexIn n x × (vertex_told m x ≡ Some v)
-  vertex-in v (Host h) e = (below-host n h (all-nth (IsOfFabric n) m.vertices v (Host h) of e), found-host m.vertices v h rules.hosts_once e)
+  vertex-in v (Host h) e = (host-there n h (all-nth (IsOfFabric n) m.vertices v (Host h) of e), found-host m.vertices v h rules.hosts_once e)
   vertex-in v (Switch s) e =
       let most = number-most m.vertices 0 v s (map-numbered m rules) e in
       (omega arith, found-switch m.vertices 0 v s (map-numbered m rules) e)

@@ -8,23 +8,23 @@ use Rattle.net_defs.specs.declared.place.Place.TheVariants.{Host as AtHost, Swit
 use Rattle.net_defs.specs.Network.{Network, IsFabric}
 use Rattle.net_defs.specs.Turn.{walk_refusal}
 use Rattle.world_defs.specs.declared.effect.Cause.{Cause}
-use Rattle.world_defs.specs.declared.effect.Cause.TheVariants.{OutOfRange, NotRoute, NoCable, NewCable, BadCrc, RouteLeft, UnknownType, Malformed, NotMine}
+use Rattle.world_defs.specs.declared.effect.Cause.TheVariants.{OutOfRange}
 use Rattle.world_defs.specs.declared.effect.Said.{Said}
 use Rattle.world_defs.specs.declared.client.ClientCause.{ClientCause}
 use Rattle.world_defs.specs.declared.heard.Heard.{Heard}
-use Rattle.world_defs.specs.declared.heard.Heard.TheVariants.{Probe, Reply, Loop, Routes as HeardRoutes, RoutesAck, Message, Fragment, NotNext, NoToken as NoTokenFits, Ack}
+use Rattle.world_defs.specs.declared.heard.Heard.TheVariants.{Probe}
 use Rattle.port_ledgers.specs.declared.lane.PortName.{PortName}
 use Rattle.fabric_file.specs.Reading.{AreNamed}
 use Rattle.fab_script.specs.Ranges.{IsHost}
 use Rattle.run_defs.specs.declared.line.MapWords.{MapWords}
 use Rattle.run_defs.specs.declared.line.MapWords.TheVariants.{Complete, Doubtful, IncompleteDepth, IncompleteNodes}
 use Rattle.run_defs.specs.declared.line.InstallCause.{InstallCause}
-use Rattle.run_defs.specs.declared.line.InstallCause.TheVariants.{NoRoutes, Busy as LinksBusy, Changed, Installed as OtherInstalled, Epochs}
+use Rattle.run_defs.specs.declared.line.InstallCause.TheVariants.{NoRoutes}
 use Rattle.run_defs.specs.declared.line.PlugWords.TheVariants.{Done as Joined, PortUsed, Full}
 use Rattle.run_defs.specs.declared.line.ClientCall.{ClientCall}
 use Rattle.run_defs.specs.declared.line.ClientCall.TheVariants.{Begin, Close, Provide, Send, Poll, Tokens}
 use Rattle.run_defs.specs.declared.line.StepWords.{StepWords}
-use Rattle.run_defs.specs.declared.line.StepWords.TheVariants.{Idle, Injected, Moved, Blocked, Arrived, Dropped, Lost, Reset, Flipped, Expired, GaveUp, Repeated, Held, Replayed}
+use Rattle.run_defs.specs.declared.line.StepWords.TheVariants.{Injected, Moved, Blocked, Arrived, Dropped, Repeated, Held, Replayed}
 use Rattle.run_defs.specs.declared.line.Line.{Line}
 use Rattle.run_defs.specs.declared.line.Line.TheVariants.{Walk, Map, Route, Client}
 use Rattle.run_defs.specs.LineText.{host_name, turn_text, hex_text, client_cause, said_words, heard_word, cause_word, step_words, install_cause, place_text, words_in}
@@ -43,7 +43,8 @@ use Rattle.judge_laws.specs.Lines.{begin_already, close_not_open, close_busy, cl
 use Rattle.judge_laws.specs.Lines.{opened, closed, provided, accepted, returned, received, nothing_came, refused}
 use Rattle.judge_laws.specs.Lines.{walk_line, map_line, busy_line, circuit_line, nodes_line, routes_line, route_line, rank_line, end_of_routes, no_map, installed_line, table_line, install_refused, call_line, tokens_line, plan_line, step_line, settle_line, finish_line}
 use Rattle.judge_laws.specs.Lines.{pull_line, plug_line, revoked_line, broken_line, broken_names, end_of_broken, no_broken}
-use Rattle.judge_laws.proofs.Numbers.{number-any, number-other, within-read, counted-read}
+use Rattle.fabric_file.proofs.PlainWords.{number-any}
+use Rattle.judge_laws.proofs.Numbers.{number-other, within-read, counted-read}
 use Rattle.judge_laws.proofs.Names.{host-read, end-read, map_vertex-read, port-read, turns-read, walk-turns}
 use Rattle.judge_laws.proofs.Bytes.{bytes-read, both-read}
 
@@ -57,33 +58,15 @@ asks-read a = λ i. true && number-any a i
 -- words of a fixed list
 cause-read : (cause : InstallCause) → is_install_cause (install_cause cause) ≡ true
 cause-read NoRoutes = refl
-cause-read LinksBusy = refl
-cause-read Changed = refl
-cause-read OtherInstalled = refl
-cause-read Epochs = refl
+cause-read _ = refl
 
 heard-read : (heard : Heard) → is_heard_word (heard_word heard) ≡ true
 heard-read Probe = refl
-heard-read (Reply number host) = refl
-heard-read (Loop number) = refl
-heard-read HeardRoutes = refl
-heard-read (RoutesAck epoch host part) = refl
-heard-read Message = refl
-heard-read Fragment = refl
-heard-read NotNext = refl
-heard-read NoTokenFits = refl
-heard-read Ack = refl
+heard-read _ = refl
 
 drop-read : (cause : Cause) → is_cause_word (cause_word cause) ≡ true
 drop-read OutOfRange = refl
-drop-read NotRoute = refl
-drop-read NoCable = refl
-drop-read NewCable = refl
-drop-read BadCrc = refl
-drop-read RouteLeft = refl
-drop-read UnknownType = refl
-drop-read Malformed = refl
-drop-read NotMine = refl
+drop-read _ = refl
 
 -- the refusal of a call, after the word `refused`
 refusal-read : (call : ClientCall) (cause : ClientCause) (a : PortName) → MayRefuse call cause → refused_said call a (client_cause cause) ≡ Some (CallRefused call a)
@@ -129,20 +112,15 @@ module _ (n : Network) (is : IsFabric n) (good : AreNamed n) where
       ∙ ap (where_so (MapRead h Overgrown)) (counts-read a b)
 
   effect-read : (words : StepWords) → AreWordsIn n words → is_effect n (step_words n words) ≡ true
-  effect-read Idle there = refl
   effect-read (Injected k) there = number-any k
   effect-read (Moved e) there = ap is_some (end-read n is good e there)
   effect-read (Blocked e) there = ap is_some (end-read n is good e there)
   effect-read (Arrived h heard) there = λ i. is_some (host-read n is good h there i) && heard-read heard i
   effect-read (Dropped cause) there = λ i. true && drop-read cause i
-  effect-read Lost there = refl
-  effect-read Reset there = refl
-  effect-read Flipped there = refl
-  effect-read Expired there = refl
-  effect-read GaveUp there = refl
   effect-read (Repeated serial) there = number-any serial
   effect-read (Held serial) there = number-any serial
   effect-read (Replayed e) there = ap is_some (end-read n is good e there)
+  effect-read _ there = refl
 
   route-read : (from to : ℕ) (walk : List ℤ) → IsHost n from → IsHost n to → walk_refusal walk ≡ None
       → line_said n (words_in n (Route from to walk)) ≡ Some (RouteSaid (record { from = from; to = to; walk = walk }))

@@ -19,9 +19,9 @@ use Rattle.route_calc.proofs.Best.{arrival}
 use Rattle.route_calc.proofs.Few.{fewest}
 use Rattle.route_calc.proofs.Least.{host-at, host_start, least-legal, best-walk}
 use Rattle.route_calc.proofs.Starting.{start-there}
-use Rattle.fab_script.specs.Ranges.{IsHost}
 use Rattle.judge_laws.specs.Lines.{IsCounted}
 use Rattle.judge_laws.specs.Answers.{IsRouteIn, AreRoutesRising}
+use Rattle.judge_laws.proofs.Names.{host-there}
 
 -- a pair of hosts has one least legal route
 least-one : (m : NetMap) (order : List ℕ) (a b : ℕ) (v w : List ℤ) → IsLeastLegal m order a b v → IsLeastLegal m order a b w → v ≡ w
@@ -42,9 +42,6 @@ start-found m a b turns l = by (port_of_host m a) refl l.led
     by : (o : Option MapPort) → port_of_host m a ≡ o → led_to m o turns ≡ Some l.at → (v : ℕ) × (vertex_of_host m a ≡ Some v)
     by None e f = cc
     by (Some d) e f = (d.v, vertex-found m a d e)
-
-below-host : (n : Network) (h : ℕ) → h < length n.hosts → IsHost n h
-below-host n h low = grind (arith, nat_tests)
 
 module _ (n : Network) (m : NetMap) (rules : IsMap m) (connected : IsConnected m) (of : AreOfFabric n m) (few : length (switches_of m.vertices) ≤ 64) where
   host-low : (h v : ℕ) → vertex_of_host m h ≡ Some v → h < length n.hosts
@@ -70,8 +67,8 @@ module _ (n : Network) (m : NetMap) (rules : IsMap m) (connected : IsConnected m
       let from = start-found m r.from r.to r.walk least.leads in
       let to = vertex-found m r.to least.leads.at least.leads.is_at in
       record {
-        sender = below-host n r.from (host-low r.from from.0 from.1);
-        receiver = below-host n r.to (host-low r.to least.leads.at.v to);
+        sender = host-there n r.from (host-low r.from from.0 from.1);
+        receiver = host-there n r.to (host-low r.to least.leads.at.v to);
         is_walk = least-walk r.from r.to r.walk differ least;
       }
 
@@ -98,6 +95,7 @@ code-below r s one other e = grind (arith, nat_tests)
 abbrev AreLow : List Route → Type 0
 AreLow rs = AllByRecursion (λ r. (r.from < 128) × (r.to < 128)) rs
 
+-- numbers that rise
 abbrev pub AreNumbersRising : List ℕ → Type 0
 AreNumbersRising [] = Unit {0}
 AreNumbersRising (v ∷ vs) = AllByRecursion (λ w. v < w) vs × AreNumbersRising vs

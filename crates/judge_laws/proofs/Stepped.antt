@@ -165,22 +165,13 @@ module _ (n : Network) (w : WorldState) (links : IsLinks w.links) (is : IsHistor
   links-named : {e : Event} {x : Effect} {s : Step} → LinksChange w e x s → AreWordsIn n (words_of (with_links w (stepped w.links s)) x)
   links-named (LinksChange.moves {c = c} packet next d e f g) =
       named-after (AdvanceLinks c) next (stepped-cables w.links (AdvanceLinks c) refl) (standing-named n w.links.cables is hosts switches next (next-stands w.links.cables c packet.wire next e))
-  links-named (LinksChange.loses e) = tt
-  links-named (LinksChange.resets e) = tt
-  links-named (LinksChange.repeats e) = tt
-  links-named (LinksChange.holds e) = tt
-  links-named (LinksChange.flips e) = tt
   links-named (LinksChange.replays {serial = serial} {c = c} e) =
       named-after (ReplayLinks serial) c (stepped-cables w.links (ReplayLinks serial) refl) (channel-named n w.links.cables is hosts switches c (back-channel w.links serial c links e))
-  links-named (LinksChange.pulls e) = tt
-  links-named (LinksChange.plugs e) = tt
+  links-named _ = tt
 
   host-named : (v : WorldState) {e : Event} {x : Effect} {h : ℕ} {m : NodeState} → HostChange w e x h m → AreWordsIn n (words_of v x)
   host-named v HostChange.asks = tt
-  host-named v (HostChange.stages a p by d e f) = tt
-  host-named v (HostChange.expires l) = tt
-  host-named v (HostChange.gives_up e) = tt
-  host-named v (HostChange.revokes a e) = tt
+  host-named v _ = tt
 
   arrival-named : (v : WorldState) {h : ℕ} {a : Arrival} {x : Effect} {count : ℕ} → IsHost n h → ArrivalChange w h a x count → AreWordsIn n (words_of v x)
   arrival-named v there ArrivalChange.heard = there
@@ -188,15 +179,12 @@ module _ (n : Network) (w : WorldState) (links : IsLinks w.links) (is : IsHistor
   arrival-named v there ArrivalChange.not_mine = tt
 
   change-named : {e : Event} {r : Effect × WorldState} → Change w e r → AreWordsIn n (words_of r.1 r.0)
-  change-named Change.idle = tt
   change-named (Change.blocked {c = c} packet next d e) = standing-named n w.links.cables is hosts switches next (next-stands w.links.cables c packet.wire next e)
   change-named (Change.links k) = links-named k
-  change-named (Change.drops packet why d e f) = tt
   change-named (Change.arrives {c = c} {x = x} {count = count} packet h d e f g) =
       arrival-named (record (with_node (with_links w (stepped w.links (AdvanceLinks c))) h (hear h (host_count w) (node_at w h) packet.wire).1) { dropped = count }) (arrived-host n w.links.cables is hosts switches c h packet.wire e) g
   change-named (Change.host {h = h} {m = m} k) = host-named (with_node w h m) k
-  change-named (Change.injects c out d e f g o) = tt
-  change-named (Change.calls k) = tt
+  change-named _ = tt
 
   pub step-named : (e : Event) → AreWordsIn n (words_of (step w e).1 (step w e).0)
   step-named e = change-named (view w e)

@@ -11,7 +11,8 @@ use Rattle.fab_script.specs.Ranges.{IsCommandOf}
 use Rattle.run_defs.specs.declared.command.Command.TheVariants.{Begin, Close}
 use Rattle.run_defs.specs.Session.{SessionState, new_session}
 use Rattle.run_defs.specs.Run.{IsRun}
-use Rattle.run_defs.specs.Run.Does.{determined}
+use Rattle.run_defs.proofs.Doing.{does}
+use Rattle.run_defs.proofs.Doing.Doing.{determined}
 use Rattle.run_defs.specs.Run.Runs.{ended, goes_on}
 use Rattle.judge_laws.specs.Examples.{moving, moved, ReportIsJudgedYes}
 use Rattle.judge_laws.proofs.Judged.{reports_are_judged_yes}
@@ -33,15 +34,15 @@ closes = record begins { world = (step begins.world (CloseEvent 0 2)).1 }
 moving-runs : IsRun two_hosts moving moved closes
 unfolding pulled plugged begun closed
 moving-runs =
-    goes_on {next = new_session two_hosts} (determined refl)
-    (goes_on {next = without} (determined refl)
-    (goes_on {next = without} (determined refl)
-    (goes_on {next = again} (determined refl)
-    (goes_on {next = again} (determined refl)
-    (goes_on {next = begins} (determined refl)
-    (goes_on {next = begins} (determined refl)
-    (goes_on {next = closes} (determined refl)
-    (goes_on {next = closes} (determined refl) ended refl) refl) refl) refl) refl) refl) refl) refl) refl
+    goes_on {next = new_session two_hosts} (does (determined refl))
+    (goes_on {next = without} (does (determined refl))
+    (goes_on {next = without} (does (determined refl))
+    (goes_on {next = again} (does (determined refl))
+    (goes_on {next = again} (does (determined refl))
+    (goes_on {next = begins} (does (determined refl))
+    (goes_on {next = begins} (does (determined refl))
+    (goes_on {next = closes} (does (determined refl))
+    (goes_on {next = closes} (does (determined refl)) ended refl) refl) refl) refl) refl) refl) refl) refl) refl
 
 opens : IsCommandOf two_hosts (Begin 0 2 1 1)
 opens = (refl, (omega arith, omega arith), (omega arith, omega arith), (omega arith, omega arith))

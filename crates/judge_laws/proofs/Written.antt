@@ -8,7 +8,7 @@ use Rattle.run_defs.specs.declared.line.Line.{Line}
 use Rattle.run_defs.specs.LineText.{words_in, line_text}
 use Rattle.line_forms.specs.declared.line.ReportLine.{ReportLine}
 use Rattle.report_lines.specs.Lines.{line_said}
-use Rattle.map_canon.proofs.Lines.{ArePlain, words-spaced, left-printed}
+use Rattle.fabric_file.proofs.PlainLines.{ArePlain, words-spaced, left-printed}
 use Rattle.judge_laws.specs.Lines.{Says}
 use Rattle.judge_laws.specs.Laws.{IsFirstLine}
 use Rattle.judge_laws.proofs.Plain.{line-plain, line-begins}

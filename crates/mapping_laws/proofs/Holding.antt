@@ -1,5 +1,5 @@
 -- A run's session holds a map that was right where it says complete, and routes that were.
-use Rattle.std.proofs.Common.{◌≡◌, ◌⊎◌, inl, inr, ℕ, ◌≤◌, Bool, true, false, not, nat_eq, List, [], ◌∷◌, Option, Some, None, cond, refl, sym, ◌∙◌, ap, subst, arith, if◌then◌else◌}
+use Rattle.std.proofs.Common.{◌≡◌, ◌⊎◌, inl, inr, ℕ, ◌≤◌, true, false, not, nat_eq, List, [], ◌∷◌, map, Option, Some, None, cond, refl, sym, ◌∙◌, ap, subst, arith}
 use Rattle.std.specs.List.{AllByRecursion}
 use Rattle.std.proofs.lemmas.Bool.{and_parts}
 use Rattle.std.proofs.lemmas.Bool.Decides.{Decides-eqb}
@@ -7,40 +7,36 @@ use Rattle.net_defs.specs.declared.route.Route.{Route}
 use Rattle.net_defs.specs.Network.{Network}
 use Rattle.cable_history.specs.History.{CableHistory, IsHistory, fabric_at}
 use Rattle.cable_history.proofs.Now.{last_is_now}
+use Rattle.act_defs.specs.Acts.{Happens, acted_all}
 use Rattle.act_defs.proofs.Epochs.{may-from}
 use Rattle.act_defs.proofs.Kept.{CablesKept}
-use Rattle.link_defs.specs.Links.{is_idle}
 use Rattle.map_defs.specs.Orientation.{order_of}
 use Rattle.map_defs.proofs.Places.{places_are_an_order}
 use Rattle.map_laws.specs.RouteSets.{AreRightRoutes}
 use Rattle.map_laws.proofs.RightRoutes.{routes_of_a_right_map_are_right}
 use Rattle.world_defs.specs.declared.event.Event.{Event}
-use Rattle.world_defs.specs.declared.event.Event.TheVariants.{Begin, Close, Provide, Send, Poll, Pull, Plug}
-use Rattle.world_defs.specs.declared.effect.Effect.{Effect}
 use Rattle.world_defs.specs.Table.{Adoption}
 use Rattle.world_defs.specs.World.{WorldState, fabric_of, adopted_by, may_adopt}
-use Rattle.world_defs.specs.Step.{step, steps}
-use Rattle.world_defs.specs.Logs as log
-use Rattle.world_defs.specs.Log.{Log}
+use Rattle.world_defs.specs.Step.{step}
 use Rattle.run_defs.specs.declared.command.Command.{Command}
-use Rattle.run_defs.specs.declared.command.Command.TheVariants.{Walk, Map, Circuit, Routes, Install, Begin as BeginCommand, Close as CloseCommand, Poll as PollCommand, Tokens, Provide as ProvideCommand, Send as SendCommand, Plan, Step, Settle, Finish, Duo, Pull as PullCommand, Plug as PlugCommand, Revoke as RevokeCommand, Broken}
-use Rattle.run_defs.specs.declared.line.Line.TheVariants.{MapBusy, InstallRefused}
-use Rattle.run_defs.specs.declared.line.InstallCause.TheVariants.{Busy}
 use Rattle.run_defs.specs.declared.line.MapWords.{MapWords}
 use Rattle.run_defs.specs.declared.line.MapWords.TheVariants.{Complete, Doubtful, IncompleteDepth, IncompleteNodes}
 use Rattle.run_defs.specs.Mapped.{IsMapped}
 use Rattle.run_defs.specs.Output.{Piece}
 use Rattle.run_defs.specs.Session.{SessionState, LastMap, LastRoutes, new_session, is_complete, complete_map}
-use Rattle.run_defs.specs.Outcome.{Outcome, says_only, event_of, stepped, step_or_idle, install_done, install_now, install, map_refused, routes_refused, outcome, set_of, may_install, refusal_cause, revocations}
+use Rattle.run_defs.specs.Deed.{Deed, session_after}
+use Rattle.run_defs.specs.Outcome.{Kind, kind_of, Outcome, outcome, set_of, installation, may_install}
 use Rattle.run_defs.specs.Run.{Does, Runs}
-use Rattle.run_defs.specs.Run.Does.{determined, maps, circuits, routes}
+use Rattle.run_defs.proofs.Doing.{Doing, doing, does}
+use Rattle.run_defs.proofs.Doing.Doing.{determined, maps, circuits, routes}
+use Rattle.run_defs.proofs.ByKind.{IsLaw, by-kind, outcome-law}
 use Rattle.run_defs.specs.Run.Runs.{ended, goes_on}
 use Rattle.run_defs.specs.Headline.{IsCommandOf}
 use Rattle.mapping_laws.specs.Runs.{IsSessionOf}
 use Rattle.mapping_laws.specs.Held.{IsRightMap, WasRightMap, WereRightRoutes, HoldsRight, RunHoldsRight}
 use Rattle.mapping_laws.proofs.Made.{mapping_keeps, made_map_is_map, made_map_is_right, made_map_is_connected}
-use Rattle.install_laws.proofs.Worlds.{SameSet, event-set, settle-set, installed-set}
-use Rattle.mapping_laws.proofs.Sessions.{revoked-of, can-map-now, mapped-stays, does-keep, does-stays, new-session}
+use Rattle.install_laws.proofs.Worlds.{event-set}
+use Rattle.mapping_laws.proofs.Sessions.{can-map-now, mapped-stays, does-keep, does-stays, new-session}
 
 -- where routes may be installed, no change came since their map began
 pub can-install : (w : WorldState) (l : LastRoutes) → not (may_install w l) ≡ false → (l.began ≡ w.links.cables.changes) × (may_adopt w l.routes ≡ true)
@@ -49,82 +45,44 @@ can-install w l e =
     ((Decides-eqb l.began w.links.cables.changes).0 both.0, both.1)
 
 -- the last routes were adopted, before any change since their map began
-record IsLastAdopted (s : SessionState) (o : Option Adoption) : Type 0 where
-  last : LastRoutes
-  are : s.last_routes ≡ Some last
-  unchanged : last.began ≡ s.world.links.cables.changes
-  is : o ≡ Some (set_of s.world last)
+pub record IsLastAdopted (s : SessionState) (o : Option Adoption) : Type 0 where
+  pub last : LastRoutes
+  pub are : s.last_routes ≡ Some last
+  pub unchanged : last.began ≡ s.world.links.cables.changes
+  pub is : o ≡ Some (set_of s.world last)
 
 -- a session after another that holds the same, but may have adopted the last routes
-record HeldBy (s next : SessionState) : Type 0 where
-  last_map : next.last_map ≡ s.last_map
-  last_routes : next.last_routes ≡ s.last_routes
-  adopted : (next.world.adopted ≡ s.world.adopted) ⊎ IsLastAdopted s next.world.adopted
+pub record HeldBy (s next : SessionState) : Type 0 where
+  pub last_map : next.last_map ≡ s.last_map
+  pub last_routes : next.last_routes ≡ s.last_routes
+  pub adopted : (next.world.adopted ≡ s.world.adopted) ⊎ IsLastAdopted s next.world.adopted
 
 held-world : (s : SessionState) (w : WorldState) → w.adopted ≡ s.world.adopted → HeldBy s (record s { world = w })
 held-world s w e = record { last_map = refl; last_routes = refl; adopted = inl e }
 
-abbrev HeldIn : SessionState → Option Outcome → Type 0
-HeldIn s None = Unit {0}
-HeldIn s (Some o) = HeldBy s o.after
+-- events keep the adopted set
+pub set-events : (w : WorldState) (es : List Event) → (acted_all w (map Happens es)).adopted ≡ w.adopted
+set-events w [] = refl
+set-events w (e ∷ es) = set-events (step w e).1 es ∙ event-set w e
 
-stepped-held : (s : SessionState) (r : Effect × WorldState) → r.1.adopted ≡ s.world.adopted → HeldIn s (Some (stepped s r))
-stepped-held s (x, w) e = held-world s w e
+abbrev HeldAfter : SessionState → Deed → Type 0
+HeldAfter s d = HeldBy s (session_after s d)
 
-step-held : (s : SessionState) (o : Option Event) → HeldIn s (Some (step_or_idle s o))
-step-held s None = held-world s s.world refl
-step-held s (Some e) = stepped-held s (step s.world e) (event-set s.world e)
+held-law : (s : SessionState) (k : Kind) → IsLaw (HeldAfter s) s k
+held-law s k = record {
+  reads = λ ls. held-world s s.world refl;
+  happens = λ es ls of_k. held-world s (acted_all s.world (map Happens es)) (set-events s.world es);
+  plans = λ ahead fault is. record { last_map = refl; last_routes = refl; adopted = inl refl };
+  installs = λ l tries is are may. record {
+    last_map = refl;
+    last_routes = refl;
+    adopted = inr (record { last = l; are = are; unchanged = (can-install s.world l may).0; is = set-events (adopted_by s.world l.mapper l.routes) (installation s.world l tries).events });
+  };
+  restarts = λ e is. record { last_map = refl; last_routes = refl; adopted = inl refl };
+}
 
-done-held : (s : SessionState) (l : LastRoutes) (hosts : List ℕ) (r : Log ℕ) → s.last_routes ≡ Some l → l.began ≡ s.world.links.cables.changes → r.world.adopted ≡ Some (set_of s.world l) → HeldIn s (Some (install_done s hosts r))
-done-held s l hosts r are same e = record { last_map = refl; last_routes = refl; adopted = inr (record { last = l; are = are; unchanged = same; is = e }) }
-
-install-held : (s : SessionState) (tries : ℕ) (o : Option LastRoutes) → s.last_routes ≡ o → HeldIn s (Some (install s tries o))
-install-held s tries None are = held-world s s.world refl
-install-held s tries (Some l) are = by (not (is_idle s.world.links)) (not (may_install s.world l)) refl
-  where
-    by : (busy other : Bool) → not (may_install s.world l) ≡ other → HeldIn s (Some (if busy then says_only s (InstallRefused Busy ∷ []) else if other then says_only s (InstallRefused (refusal_cause s.world l) ∷ []) else install_now s l tries))
-    by true other e = held-world s s.world refl
-    by false true e = held-world s s.world refl
-    by false false e =
-        let w : WorldState = adopted_by s.world l.mapper l.routes in
-        done-held s l l.hosts (log.install (set_of s.world l) l.hosts tries w) are (can-install s.world l e).0 (installed-set (set_of s.world l) l.hosts tries w)
-
-refused-held : (s : SessionState) (o : Option LastMap) → HeldIn s (routes_refused s o)
-refused-held s None = held-world s s.world refl
-refused-held s (Some l) = tt
-
-busy-held : (s : SessionState) (host : ℕ) → HeldIn s (map_refused s host)
-busy-held s host = by (is_idle s.world.links)
-  where
-    by : (idle : Bool) → HeldIn s (if idle then None else Some (says_only s (MapBusy host ∷ [])))
-    by true = tt
-    by false = held-world s s.world refl
-
-revoked-set : (w : WorldState) → SameSet w (steps w (revocations w)).1
-revoked-set w = revoked-of SameSet (record { same = λ v. refl; both = λ t u v f g. g ∙ f; event = λ v e q. event-set v e }) w
-
-outcome-held : (s : SessionState) (c : Command) → HeldIn s (outcome s c)
-outcome-held s (Walk host walk) = held-world s s.world refl
-outcome-held s (Map host depth tries) = busy-held s host
-outcome-held s (Circuit host depth) = tt
-outcome-held s Routes = refused-held s (complete_map s.last_map)
-outcome-held s (Install tries) = install-held s tries s.last_routes refl
-outcome-held s (BeginCommand h port sends recvs) = held-world s (step s.world (Begin h port sends recvs)).1 (event-set s.world (Begin h port sends recvs))
-outcome-held s (CloseCommand h port) = held-world s (step s.world (Close h port)).1 (event-set s.world (Close h port))
-outcome-held s (PollCommand h port) = held-world s (step s.world (Poll h port)).1 (event-set s.world (Poll h port))
-outcome-held s (Tokens h port) = held-world s s.world refl
-outcome-held s (ProvideCommand h port size prio) = held-world s (step s.world (Provide h port size prio)).1 (event-set s.world (Provide h port size prio))
-outcome-held s (SendCommand h port dest dport prio len seed) =
-    held-world s (step s.world (Send h port dest dport prio len seed)).1 (event-set s.world (Send h port dest dport prio len seed))
-outcome-held s (Plan ahead kind) = record { last_map = refl; last_routes = refl; adopted = inl refl }
-outcome-held s (Step line) = step-held s (event_of s.world line)
-outcome-held s Settle = held-world s (log.settle s.world).world (settle-set s.world)
-outcome-held s Finish = held-world s s.world refl
-outcome-held s (Duo e) = record { last_map = refl; last_routes = refl; adopted = inl refl }
-outcome-held s (PullCommand at) = held-world s (step s.world (Pull at)).1 (event-set s.world (Pull at))
-outcome-held s (PlugCommand a b) = held-world s (step s.world (Plug a b)).1 (event-set s.world (Plug a b))
-outcome-held s RevokeCommand = held-world s (steps s.world (revocations s.world)).1 (revoked-set s.world)
-outcome-held s Broken = held-world s s.world refl
+pub outcome-held : (s : SessionState) (c : Command) (o : Outcome) → outcome s c ≡ Some o → HeldBy s o.after
+outcome-held s c o e = outcome-law (λ o. HeldBy s o.after) s c o (by-kind (HeldAfter s) s (kind_of c) (held-law s (kind_of c))) e
 
 -- what was right stays so
 map-past : (w v : WorldState) (l : LastMap) → CablesKept w v → WasRightMap w.links.cables l → WasRightMap v.links.cables l
@@ -180,10 +138,10 @@ map-now w v r is k e right =
     let high : w.links.cables.changes ≤ r.began = omega (arith, e) in
     map-past w v r k (record { past = low; right = subst (λ n. IsRightMap n r) (sym (last_is_now w.links.cables r.began is high)) right })
 
-pub does-hold : {s next : SessionState} {c : Command} {out : List Piece} → (n : Network) → IsCommandOf n c → IsSessionOf n s → HoldsRight s → Does s c out next → HoldsRight next
-does-hold {s = s} {next = next} {c = c} n of_n is h (determined e) = held-right s next (does-keep {s = s} {next = next} {c = c} n of_n (determined e)).cables (subst (HeldIn s) e (outcome-held s c)) h
-does-hold {s = s} {next = next} n of_n is h (maps {host = host} {depth = depth} {tries = tries} after j m words none made printed left) =
-    let can = can-map-now n s host depth tries of_n is none in
+holds-so : {s next : SessionState} {c : Command} {out : List Piece} → (n : Network) → IsCommandOf n c → IsSessionOf n s → HoldsRight s → Doing s c out next → HoldsRight next
+holds-so {s = s} {next = next} {c = c} {out = out} n of_n is h (determined e) = held-right s next (does-keep {s = s} {next = next} {c = c} n of_n (does (determined e))).cables (outcome-held s c (record { output = out; after = next }) e) h
+holds-so {s = s} {next = next} n of_n is h (maps {host = host} {depth = depth} {tries = tries} after j m words idle made printed left) =
+    let can = can-map-now n s host depth tries of_n is idle in
     let r : LastMap = record { mapper = host; words = words; made = m; began = s.world.links.cables.changes } in
     let set = (mapping_keeps host depth tries s.world after j m words can made).0.adopted in
     let c : CablesKept s.world after = (mapped-stays s.world after host tries j made.led).cables in
@@ -196,12 +154,15 @@ does-hold {s = s} {next = next} n of_n is h (maps {host = host} {depth = depth} 
       routes = λ l e. routes-past s.world after l.began l.mapper l.routes c (h.routes l e);
       adopted = λ a e. adopted-past s.world after a c (h.adopted a (sym set ∙ e));
     })
-does-hold {s = s} {next = next} n of_n is h (circuits told left) = subst HoldsRight (sym left) h
-does-hold {s = s} {next = next} n of_n is h (routes l found complete are printed left) =
+holds-so {s = s} {next = next} n of_n is h (circuits told left) = subst HoldsRight (sym left) h
+holds-so {s = s} {next = next} n of_n is h (routes l found complete are printed left) =
     let k = h.complete l complete in
     let past : Network = fabric_at s.world.links.cables l.began in
     let right = routes_of_a_right_map_are_right past l.mapper l.made (order_of l.made) found (is.history.fabrics l.began) k.right.rules k.right.right (places_are_an_order l.made) are in
     subst HoldsRight (sym left) (record { complete = h.complete; routes = λ x e. kept-routes s.world.links.cables _ x (record { past = k.past; right = right }) e; adopted = h.adopted })
+
+pub does-hold : {s next : SessionState} {c : Command} {out : List Piece} → (n : Network) → IsCommandOf n c → IsSessionOf n s → HoldsRight s → Does s c out next → HoldsRight next
+does-hold n of_n is h d = holds-so n of_n is h (doing d)
 
 runs-hold : {s last : SessionState} {cs : List Command} {out : List Piece} → (n : Network) → AllByRecursion (IsCommandOf n) cs → IsSessionOf n s → HoldsRight s → Runs s cs out last → HoldsRight last
 runs-hold n all is h ended = h

@@ -1,10 +1,9 @@
 -- Each line that says complete, or reports circuit links, is the first that a command prints, and followed by a map
 -- that is right in the fabric before the command; so the command is named for each such line of what a run prints.
-use Rattle.std.proofs.Common.{◌≡◌, ℕ, Bool, true, false, not, List, [], ◌∷◌, ◌++◌, map, length, Option, Some, None, refl, sym, ap, ◌∙◌, subst, if◌then◌else◌}
+use Rattle.std.proofs.Common.{◌≡◌, ℕ, List, [], ◌∷◌, ◌++◌, map, length, Option, Some, None, refl, sym, ap, ◌∙◌, subst}
 use Rattle.std.specs.List.{AllByRecursion}
 use Rattle.net_defs.specs.declared.route.Route.{Route}
 use Rattle.net_defs.specs.Network.{Network}
-use Rattle.link_defs.specs.Links.{is_idle}
 use Rattle.journal_defs.specs.declared.entry.Entry.{Entry}
 use Rattle.journal_defs.proofs.Members.{all-join}
 use Rattle.gm_defs.specs.Token.{PortState}
@@ -12,30 +11,27 @@ use Rattle.map_defs.specs.NetMap.{NetMap}
 use Rattle.map_defs.specs.Ranks.{ranks_of}
 use Rattle.map_defs.specs.Orientation.{order_of}
 use Rattle.map_defs.specs.Sameness.{IsMapOfPart}
-use Rattle.world_defs.specs.declared.event.Event.{Event}
-use Rattle.world_defs.specs.declared.effect.Effect.{Effect}
 use Rattle.world_defs.specs.Node.{port_at}
 use Rattle.cable_history.proofs.Now.{now_is_fabric}
 use Rattle.world_defs.specs.Table.{Adoption}
-use Rattle.world_defs.specs.World.{WorldState, fabric_of, node_at, adopted_by}
-use Rattle.world_defs.specs.Step.{step}
-use Rattle.world_defs.specs.Logs as log
-use Rattle.world_defs.specs.Log.{Log}
+use Rattle.world_defs.specs.World.{WorldState, fabric_of, node_at}
 use Rattle.run_defs.specs.declared.command.Command.{Command}
-use Rattle.run_defs.specs.declared.command.Command.TheVariants.{Walk, Map, Circuit, Routes, Install, Begin as BeginCommand, Close as CloseCommand, Poll as PollCommand, Tokens, Provide as ProvideCommand, Send as SendCommand, Plan, Step, Settle, Finish, Duo, Pull, Plug, Revoke, Broken}
+use Rattle.run_defs.specs.declared.command.Command.TheVariants.{Map, Circuit, Routes, Install, Tokens, Step, Broken}
 use Rattle.run_defs.specs.declared.line.Line.{Line}
-use Rattle.run_defs.specs.declared.line.Line.TheVariants.{Map as MapLine, MapBusy, Circuit as CircuitLine, EndRoutes, InstallRefused, Broken as BrokenLine, EndBroken}
-use Rattle.run_defs.specs.declared.line.InstallCause.TheVariants.{Busy}
+use Rattle.run_defs.specs.declared.line.Line.TheVariants.{Map as MapLine, Circuit as CircuitLine, EndRoutes, Step as StepLine, Broken as BrokenLine, EndBroken}
 use Rattle.run_defs.specs.declared.line.MapWords.{MapWords}
 use Rattle.run_defs.specs.declared.line.MapWords.TheVariants.{Complete, Doubtful, IncompleteDepth, IncompleteNodes}
 use Rattle.run_defs.specs.Mapped.{IsMapped}
 use Rattle.run_defs.specs.Circuit.{IsCircuitTold}
 use Rattle.run_defs.specs.Circuit.IsCircuitTold.{whole, too_many_nodes}
 use Rattle.run_defs.specs.Output.{Piece, OneLine, MapLines, lines}
-use Rattle.run_defs.specs.Session.{SessionState, LastMap, LastRoutes, new_session, complete_map}
-use Rattle.run_defs.specs.Outcome.{Outcome, says_only, event_of, stepped, step_or_idle, token_lines, table_line, install_done, install_now, install, map_refused, routes_refused, outcome, set_of, may_install, refusal_cause, broken_routes, broken_lines}
+use Rattle.run_defs.specs.Session.{SessionState, new_session, complete_map}
+use Rattle.run_defs.specs.Deed.{Deed}
+use Rattle.run_defs.specs.Outcome.{event_of, words_of, token_lines, table_line, installation, broken_routes, broken_lines, deed_of}
 use Rattle.run_defs.specs.Run.{Does, Runs, map_pieces, route_line, rank_line, routes_lines}
-use Rattle.run_defs.specs.Run.Does.{determined, maps, circuits, routes}
+use Rattle.run_defs.proofs.Doing.{doing, Doing}
+use Rattle.run_defs.proofs.Doing.Doing.{determined, maps, circuits, routes}
+use Rattle.run_defs.proofs.ByKind.{InDeed, refused-map, refused-routes, by-event, by-install, outcome-law}
 use Rattle.run_defs.specs.Run.Runs.{ended, goes_on}
 use Rattle.run_defs.specs.Headline.{IsCommandOf, WasTrue}
 use Rattle.circ_defs.specs.CircuitMap.{IsCircuitMap}
@@ -90,43 +86,12 @@ each-other : {X : Type 0} (f : X → Line) (xs : List X) → ((x : X) → IsOthe
 each-other f [] e = tt
 each-other f (x ∷ xs) e = (e x, each-other f xs e)
 
-abbrev OthersIn : Option Outcome → Type 0
-OthersIn None = Unit {0}
-OthersIn (Some o) = AllByRecursion IsOtherPiece o.output
+abbrev OtherOut : Deed → Type 0
+OtherOut d = AllByRecursion IsOtherPiece d.output
 
 token-other : (h port : ℕ) (o : Option PortState) → AllByRecursion IsOtherPiece (lines (token_lines h port o))
 token-other h port None = (refl, tt)
 token-other h port (Some p) = (refl, tt)
-
-stepped-other : (s : SessionState) (r : Effect × WorldState) → OthersIn (Some (stepped s r))
-stepped-other s (x, w) = (refl, tt)
-
-step-other : (s : SessionState) (o : Option Event) → OthersIn (Some (step_or_idle s o))
-step-other s None = (refl, tt)
-step-other s (Some e) = stepped-other s (step s.world e)
-
-done-other : (s : SessionState) (hosts : List ℕ) (r : Log ℕ) → OthersIn (Some (install_done s hosts r))
-done-other s hosts r = (refl, lines-other (map (table_line r.world) hosts) (each-other (table_line r.world) hosts (λ h. refl)))
-
-install-other : (s : SessionState) (tries : ℕ) (o : Option LastRoutes) → OthersIn (Some (install s tries o))
-install-other s tries None = (refl, tt)
-install-other s tries (Some l) = by (not (is_idle s.world.links)) (not (may_install s.world l))
-  where
-    by : (busy other : Bool) → OthersIn (Some (if busy then says_only s (InstallRefused Busy ∷ []) else if other then says_only s (InstallRefused (refusal_cause s.world l) ∷ []) else install_now s l tries))
-    by true other = (refl, tt)
-    by false true = (refl, tt)
-    by false false = done-other s l.hosts (log.install (set_of s.world l) l.hosts tries (adopted_by s.world l.mapper l.routes))
-
-refused-other : (s : SessionState) (o : Option LastMap) → OthersIn (routes_refused s o)
-refused-other s None = (refl, tt)
-refused-other s (Some l) = tt
-
-busy-other : (s : SessionState) (host : ℕ) → OthersIn (map_refused s host)
-busy-other s host = by (is_idle s.world.links)
-  where
-    by : (idle : Bool) → OthersIn (if idle then None else Some (says_only s (MapBusy host ∷ [])))
-    by true = tt
-    by false = (refl, tt)
 
 broken-other : (w : WorldState) (o : Option Adoption) → AllByRecursion IsOtherPiece (lines (broken_lines w o))
 broken-other w None = (refl, tt)
@@ -134,27 +99,17 @@ broken-other w (Some a) =
     let told : List Line = map (λ (r : Route). BrokenLine r.from r.to) (broken_routes w a) in
     lines-other (told ++ EndBroken ∷ []) (all-join IsOther told (EndBroken ∷ []) (each-other (λ (r : Route). BrokenLine r.from r.to) (broken_routes w a) (λ r. refl)) (refl, tt))
 
-outcome-other : (s : SessionState) (c : Command) → OthersIn (outcome s c)
-outcome-other s (Walk host walk) = (refl, tt)
-outcome-other s (Map host depth tries) = busy-other s host
-outcome-other s (Circuit host depth) = tt
-outcome-other s Routes = refused-other s (complete_map s.last_map)
-outcome-other s (Install tries) = install-other s tries s.last_routes
-outcome-other s (BeginCommand h port sends recvs) = (refl, tt)
-outcome-other s (CloseCommand h port) = (refl, tt)
-outcome-other s (PollCommand h port) = (refl, tt)
-outcome-other s (Tokens h port) = token-other h port (port_at (node_at s.world h) port)
-outcome-other s (ProvideCommand h port size prio) = (refl, tt)
-outcome-other s (SendCommand h port dest dport prio len seed) = (refl, tt)
-outcome-other s (Plan ahead kind) = (refl, tt)
-outcome-other s (Step line) = step-other s (event_of s.world line)
-outcome-other s Settle = (refl, tt)
-outcome-other s Finish = (refl, tt)
-outcome-other s (Duo e) = (refl, tt)
-outcome-other s (Pull at) = (refl, tt)
-outcome-other s (Plug a b) = (refl, tt)
-outcome-other s Revoke = (refl, tt)
-outcome-other s Broken = broken-other s.world s.world.adopted
+deed-other : (s : SessionState) (c : Command) → InDeed OtherOut (deed_of s c)
+deed-other s (Map host depth tries) = refused-map OtherOut s.world host (refl, tt)
+deed-other s (Circuit host depth) = tt
+deed-other s Routes = refused-routes OtherOut (complete_map s.last_map) (refl, tt)
+deed-other s (Install tries) =
+    by-install OtherOut s.world tries s.last_routes (λ cause. (refl, tt))
+    (λ l are may. let now : WorldState = (installation s.world l tries).world in (refl, lines-other (map (table_line now) l.hosts) (each-other (table_line now) l.hosts (λ h. refl))))
+deed-other s (Tokens h port) = token-other h port (port_at (node_at s.world h) port)
+deed-other s (Step line) = by-event OtherOut s.world (λ effect v. StepLine (words_of v effect) ∷ []) (event_of s.world line) (refl, tt) (λ e is. (refl, tt))
+deed-other s Broken = broken-other s.world s.world.adopted
+deed-other s _ = (refl, tt)
 
 map-prints : (n : Network) (host depth tries asks packets : ℕ) (m : NetMap) (words : MapWords) → (words ≡ Complete → IsMapOfPart n host m) → Prints n (Map host depth tries) (OneLine (MapLine host words asks packets) ∷ map_pieces words m)
 map-prints n host depth tries asks packets m Complete is = headed (MapLine host Complete asks packets) (OfPart host) m refl (depth, tries, refl) (is refl) refl
@@ -174,14 +129,17 @@ circuit-prints : (n : Network) (host depth : ℕ) (out : List Piece) → IsCircu
 circuit-prints n host depth out (whole j m growing kept is printed) = headed (CircuitLine host depth (length j)) (OfCircuit host depth (length j)) m refl refl (whole j m growing kept is refl) printed
 circuit-prints n host depth out (too_many_nodes j growing passed printed) = plain (subst (AllByRecursion IsOtherPiece) (sym printed) (refl, tt))
 
-does-print : {s next : SessionState} {c : Command} {out : List Piece} → (n : Network) → IsCommandOf n c → IsSessionOf n s → Does s c out next → Prints (fabric_of s.world) c out
-does-print {s = s} {c = c} n of_n is (determined e) = plain (subst OthersIn e (outcome-other s c))
-does-print {s = s} n of_n is (maps {host = host} {depth = depth} {tries = tries} after j m words none made printed left) =
-    let can = can-map-now n s host depth tries of_n is none in
+prints-so : {s next : SessionState} {c : Command} {out : List Piece} → (n : Network) → IsCommandOf n c → IsSessionOf n s → Doing s c out next → Prints (fabric_of s.world) c out
+prints-so {s = s} {next = next} {c = c} {out = out} n of_n is (determined e) = plain (outcome-law (λ o. AllByRecursion IsOtherPiece o.output) s c (record { output = out; after = next }) (deed-other s c) e)
+prints-so {s = s} n of_n is (maps {host = host} {depth = depth} {tries = tries} after j m words idle made printed left) =
+    let can = can-map-now n s host depth tries of_n is idle in
     subst (Prints (fabric_of s.world) (Map host depth tries)) (sym printed) (map-prints (fabric_of s.world) host depth tries _ _ m words
     (λ e. made_map_is_right host depth tries s.world after j m can (subst (IsMapped host depth tries s.world after j m) e made)))
-does-print {s = s} {out = out} n of_n is (circuits {host = host} {depth = depth} told left) = circuit-prints (fabric_of s.world) host depth out told
-does-print {s = s} n of_n is (routes l found complete are printed left) = plain (subst (AllByRecursion IsOtherPiece) (sym printed) (routes-other l.made found))
+prints-so {s = s} {out = out} n of_n is (circuits {host = host} {depth = depth} told left) = circuit-prints (fabric_of s.world) host depth out told
+prints-so {s = s} n of_n is (routes l found complete are printed left) = plain (subst (AllByRecursion IsOtherPiece) (sym printed) (routes-other l.made found))
+
+does-print : {s next : SessionState} {c : Command} {out : List Piece} → (n : Network) → IsCommandOf n c → IsSessionOf n s → Does s c out next → Prints (fabric_of s.world) c out
+does-print n of_n is d = prints-so n of_n is (doing d)
 
 -- where a piece of two outputs in a row stands: in the first or in the second
 data Stands (xs ys before : List Piece) (p : Piece) (behind : List Piece) : Type 0 where

@@ -1,5 +1,5 @@
 -- A map that a command prints was made; so it stands over the fabric, and complete ones are one.
-use Rattle.std.proofs.Common.{◌≡◌, ◌≤◌, ◌-◌, ⊎_elim, inl, inr, ℕ, Bool, true, false, List, [], ◌∷◌, length, Option, Some, None, refl, sym, ap, subst, ◌∙◌, arith, if◌then◌else◌}
+use Rattle.std.proofs.Common.{◌≡◌, ◌≤◌, ◌-◌, ⊎_elim, inl, inr, ℕ, Bool, true, false, List, [], ◌∷◌, length, Option, Some, None, option_map, refl, sym, ap, subst, ◌∙◌, arith, if◌then◌else◌}
 use Rattle.std.specs.Prelude.{ℤ, ◌⊎◌}
 use Rattle.std.proofs.lemmas.Bool.{cases_lt}
 use Rattle.net_defs.specs.Network.{Network, IsFabric}
@@ -26,9 +26,11 @@ use Rattle.run_defs.specs.Mapped.{IsMapped, IsCalled}
 use Rattle.run_defs.specs.Mapped.IsCalled.{right}
 use Rattle.run_defs.specs.Output.{Piece, OneLine, MapLines}
 use Rattle.run_defs.specs.Session.{SessionState}
-use Rattle.run_defs.specs.Outcome.{Outcome, outcome, says_only}
-use Rattle.run_defs.specs.Run.{Does, map_pieces}
-use Rattle.run_defs.specs.Run.Does.{determined, maps}
+use Rattle.run_defs.specs.Deed.{says}
+use Rattle.run_defs.specs.Outcome.{Outcome, seen, outcome}
+use Rattle.run_defs.specs.Run.{map_pieces}
+use Rattle.run_defs.proofs.Doing.{Doing, doing}
+use Rattle.run_defs.proofs.Doing.Doing.{determined, maps}
 use Rattle.mapping_laws.specs.Laws.{CanMap}
 use Rattle.mapping_laws.specs.Runs.{IsSessionOf}
 use Rattle.mapping_laws.proofs.Made.{found_is_there, undrowned_is_true}
@@ -39,7 +41,7 @@ use Rattle.print_laws.proofs.Standing.{quotient-stands}
 
 -- A map that was made in a session.
 pub record IsMade (s next : SessionState) (host depth tries : ℕ) (words : MapWords) (m : NetMap) : Type 0 where
-  pub none : outcome s (Map host depth tries) ≡ None
+  pub idle : is_idle s.world.links ≡ true
   pub journal : List Entry
   pub mapped : IsMapped host depth tries s.world next.world journal m words
 
@@ -62,28 +64,28 @@ abbrev printed_by : Option Outcome → List Piece
 printed_by None = []
 printed_by (Some o) = o.output
 
-does-made : {s next : SessionState} {out : List Piece} → (host depth tries : ℕ) (words : MapWords) (asks packets : ℕ) (m : NetMap) → out ≡ map_out host words asks packets m → Does s (Map host depth tries) out next → IsMade s next host depth tries words m
-does-made {s = s} {next = next} {out = out} host depth tries words asks packets m says (determined e) = by (is_idle s.world.links) refl
+made-so : {s next : SessionState} {out : List Piece} → (host depth tries : ℕ) (words : MapWords) (asks packets : ℕ) (m : NetMap) → out ≡ map_out host words asks packets m → Doing s (Map host depth tries) out next → IsMade s next host depth tries words m
+made-so {s = s} {next = next} {out = out} host depth tries words asks packets m says_so (determined e) = by (is_idle s.world.links) refl
   where
     got : Outcome
     got = record { output = out; after = next }
 
     by : (idle : Bool) → is_idle s.world.links ≡ idle → IsMade s next host depth tries words m
     by true i =
-        let none : outcome s (Map host depth tries) ≡ None = ap (λ b. if b then None else Some (says_only s (MapBusy host ∷ []))) i in
+        let none : outcome s (Map host depth tries) ≡ None = ap (λ b. option_map (seen s) (if b then None else Some (says (MapBusy host ∷ [])))) i in
         let bad : None ≡ Some got = sym none ∙ e in
         cc
     by false i =
-        let busy : outcome s (Map host depth tries) ≡ Some (says_only s (MapBusy host ∷ [])) = ap (λ b. if b then None else Some (says_only s (MapBusy host ∷ []))) i in
-        let bad : OneLine (MapBusy host) ∷ [] ≡ map_out host words asks packets m = ap printed_by (sym busy ∙ e) ∙ says in
+        let busy : outcome s (Map host depth tries) ≡ Some (seen s (says (MapBusy host ∷ []))) = ap (λ b. option_map (seen s) (if b then None else Some (says (MapBusy host ∷ [])))) i in
+        let bad : OneLine (MapBusy host) ∷ [] ≡ map_out host words asks packets m = ap printed_by (sym busy ∙ e) ∙ says_so in
         cc
-does-made {s = s} {next = next} host depth tries words asks packets m says (maps after j k x none made printed left) =
-    let both : OneLine (MapLine host x (length j) (after.injected - s.world.injected)) ∷ map_pieces x k ≡ map_out host words asks packets m = sym printed ∙ says in
+made-so {s = s} {next = next} host depth tries words asks packets m says_so (maps after j k x idle made printed left) =
+    let both : OneLine (MapLine host x (length j) (after.injected - s.world.injected)) ∷ map_pieces x k ≡ map_out host words asks packets m = sym printed ∙ says_so in
     let called : x ≡ words = cc in
     let one : k ≡ m = pieces-map x k m (ap rest_of both) in
     let world : after ≡ next.world = sym (ap (λ (t : SessionState). t.world) left) in
     record {
-      none = none;
+      idle = idle;
       journal = j;
       mapped = subst (λ w. IsMapped host depth tries s.world w j m words) world (subst (λ y. IsMapped host depth tries s.world after j m y) called (subst (λ y. IsMapped host depth tries s.world after j y x) one made));
     }
@@ -102,14 +104,14 @@ pub record IsMapping (n : Network) (host : ℕ) (words : MapWords) (m : NetMap) 
 pub mapping-of : (n : Network) (commands : List Command) (host : ℕ) (words : MapWords) (m : NetMap) → IsFabric n → (p : IsPrintedAfter n commands host words m) → IsMapping (fabric_of p.session.world) host words m
 mapping-of n commands host words m f p =
     let is : IsSessionOf n p.session = run_keeps_world n commands p.out p.session f p.over p.run in
-    let made = does-made host p.depth p.tries words p.prints.asks p.prints.packets m refl p.prints.does in
+    let made = made-so host p.depth p.tries words p.prints.asks p.prints.packets m refl (doing p.prints.does) in
     record {
       before = p.session.world;
       after = p.next.world;
       depth = p.depth;
       tries = p.tries;
       journal = made.journal;
-      can = can-map-now n p.session host p.depth p.tries p.of_fabric is made.none;
+      can = can-map-now n p.session host p.depth p.tries p.of_fabric is made.idle;
       fabric = refl;
       mapped = made.mapped;
     }

@@ -1,11 +1,9 @@
 -- What the two hosts that restart come to in a run, and what they depend on.
-use Rattle.std.proofs.Common.{◌≡◌, ◌⊎◌, inl, inr, ℕ, Bool, true, false, not, List, [], ◌∷◌, ◌++◌, Option, Some, None, option_map, refl, sym, ◌∙◌, ap, subst, arith, if◌then◌else◌}
+use Rattle.std.proofs.Common.{◌≡◌, ◌⊎◌, inl, inr, List, [], ◌∷◌, ◌++◌, Option, Some, None, refl, sym, ◌∙◌, ap, subst, arith}
 use Rattle.std.specs.List.{AllByRecursion}
 use Rattle.net_defs.specs.Network.{Network}
-use Rattle.link_defs.specs.Links.{is_idle}
-use Rattle.world_defs.specs.World.{WorldState, may_adopt}
-use Rattle.act_defs.specs.Acts.{Act}
-use Rattle.world_defs.specs.declared.event.Event.{Event}
+use Rattle.world_defs.specs.World.{WorldState}
+use Rattle.act_defs.specs.Acts.{Act, acted_all}
 use Rattle.duo_defs.specs.declared.event.DuoEvent.{DuoEvent}
 use Rattle.duo_defs.specs.declared.event.DuoEvent.TheVariants.{Poll as DuoPoll}
 use Rattle.duo_defs.specs.declared.effect.DuoEffect.{DuoEffect}
@@ -17,20 +15,20 @@ use Rattle.duo_laws.proofs.Owners.{one-owner}
 use Rattle.duo_laws.proofs.Polls.{polls-right}
 use Rattle.run_defs.specs.declared.command.Command.{Command}
 use Rattle.run_defs.specs.declared.command.Command.TheVariants.{Walk, Map, Circuit, Routes, Install, Begin, Close, Poll, Tokens, Provide, Send, Plan, Step, Settle, Finish, Duo, Pull, Plug, Revoke, Broken}
-use Rattle.run_defs.specs.declared.line.Line.TheVariants.{MapBusy, InstallRefused, Duo as DuoLine}
-use Rattle.run_defs.specs.declared.line.InstallCause.TheVariants.{Busy}
+use Rattle.run_defs.specs.declared.line.Line.TheVariants.{Duo as DuoLine}
 use Rattle.run_defs.specs.Duos.{begun, beside, IsOther}
 use Rattle.run_defs.specs.Output.{Piece, OneLine}
-use Rattle.run_defs.specs.Outcome.{Outcome, says_only, event_of, step_or_idle, install_now, install, map_refused, routes_refused, outcome, may_install, refusal_cause}
-use Rattle.run_defs.specs.Run.{Does, Runs}
-use Rattle.run_defs.specs.Run.Does.{determined, maps, circuits, routes}
+use Rattle.run_defs.specs.Deed.{Note, Nothing, KeepsMap, KeepsRoutes, KeepsDuo, Deed, noted, session_after}
+use Rattle.run_defs.specs.Outcome.{Kind, OfTheDuo, kind_of, duo_done, deed_of_kind, deed_of}
+use Rattle.run_defs.specs.Run.{IsDeed, Does, Runs}
+use Rattle.run_defs.specs.Run.IsDeed.{determined, maps, circuits, routes}
+use Rattle.run_defs.proofs.ByKind.{InDeed, IsLaw, by-kind}
 use Rattle.run_defs.specs.Run.Runs.{ended, goes_on}
-use Rattle.run_defs.specs.Session.{SessionState, LastMap, LastRoutes, complete_map}
+use Rattle.run_defs.specs.Session.{SessionState}
 use Rattle.fab_script.specs.Ranges.{IsCommandOf as IsSaid}
 use Rattle.fab_script.proofs.Ranged.{events_are_fair}
-use Rattle.promise_laws.specs.CommandActs.{acts_of, StandsFor}
-use Rattle.promise_laws.specs.CommandActs.StandsFor.{determined as told, asks}
-use Rattle.promise_laws.specs.CutShort.{IsCutShort}
+use Rattle.promise_laws.specs.CutShort.{IsPartActed, IsCutShort}
+use Rattle.promise_laws.specs.CutShort.IsCutShort.{undone, part_done}
 use Rattle.promise_laws.specs.Duos.{DuoLinesDependOnTheDuo, DuoLinesKeepTheRest, OthersKeepTheDuo, IsReachedFromNew, IsDuoLeft, DuosAreReached, LeftDuosAreReached, ReachedDuosAreSound, DuoPollsAreRight}
 use Rattle.promise_laws.specs.Duos.IsDuoLeft.{kept, begins, stepped}
 
@@ -39,22 +37,19 @@ record Did (s : SessionState) (e : DuoEvent) (out : List Piece) (next : SessionS
   printed : out ≡ OneLine (DuoLine (duo_step (begun s.duo) e).0) ∷ []
   left : next ≡ beside s (Some (duo_step (begun s.duo) e).1)
 
--- the parts of an outcome, where there is one
-abbrev output-of : Option Outcome → List Piece
-output-of None = []
-output-of (Some o) = o.output
+some-deed : (x y : Deed) → Some x ≡ Some y → x ≡ y
+some-deed x y e = cc
 
-abbrev after-of : SessionState → Option Outcome → SessionState
-after-of s None = s
-after-of s (Some o) = o.after
+duo-deed : {s : SessionState} {c : Command} {d : Deed} → (e : DuoEvent) → c ≡ Duo e → IsDeed s c d → d ≡ duo_done (duo_step (begun s.duo) e)
+duo-deed {s = s} {d = d} e same (determined is) = some-deed d (duo_done (duo_step (begun s.duo) e)) (sym is ∙ ap (deed_of s) same)
+duo-deed e same (maps after j m words idle made is) = cc
+duo-deed e same (circuits out told is) = cc
+duo-deed e same (routes l found complete are is) = cc
 
 did : {s next : SessionState} {c : Command} {out : List Piece} → (e : DuoEvent) → c ≡ Duo e → Does s c out next → Did s e out next
-did {s = s} {next = next} {c = c} {out = out} e same (determined is) =
-    let both : Some (record { output = out; after = next }) ≡ outcome s (Duo e) = sym is ∙ ap (outcome s) same in
-    record { printed = ap output-of both; left = ap (after-of s) both }
-did e same (maps after j m words none made printed left) = cc
-did e same (circuits is_told left) = cc
-did e same (routes l found complete are printed left) = cc
+did {s = s} e same d =
+    let one = duo-deed e same d.is in
+    record { printed = d.prints ∙ ap (λ (x : Deed). x.output) one; left = d.leaves ∙ ap (session_after s) one }
 
 pub duo_lines_depend_on_the_duo : DuoLinesDependOnTheDuo
 duo_lines_depend_on_the_duo s t left next e out printed same first second =
@@ -71,154 +66,73 @@ duo_lines_keep_the_rest s next e out does =
     let a = did e refl does in
     a.left ∙ ap (beside s) (sym (ap (λ (x : SessionState). x.duo) a.left))
 
--- an outcome beside other two hosts
-abbrev pub with-duo : Option DuoState → Outcome → Outcome
-with-duo d o = record { output = o.output; after = beside o.after d }
+-- the kind of another command, whose deed keeps none of them
+abbrev pub IsOtherKind : Kind → Type 0
+IsOtherKind (OfTheDuo e) = ⊥
+IsOtherKind _ = Unit {0}
 
-map-beside : (s : SessionState) (host : ℕ) (d : Option DuoState) → map_refused (beside s d) host ≡ option_map (with-duo d) (map_refused s host)
-map-beside s host d = by (is_idle s.world.links)
-  where
-    by : (idle : Bool) → (if idle then None else Some (says_only (beside s d) (MapBusy host ∷ []))) ≡ option_map (with-duo d) (if idle then None else Some (says_only s (MapBusy host ∷ [])))
-    by true = refl
-    by false = refl
+pub other-kind : (c : Command) → IsOther c → IsOtherKind (kind_of c)
+other-kind (Duo e) other = other e refl
+other-kind c other = tt
 
-routes-beside : (s : SessionState) (o : Option LastMap) (d : Option DuoState) → routes_refused (beside s d) o ≡ option_map (with-duo d) (routes_refused s o)
-routes-beside s None d = refl
-routes-beside s (Some l) d = refl
+abbrev pub IsOtherNote : Note → Type 0
+IsOtherNote (KeepsDuo d) = ⊥
+IsOtherNote _ = Unit {0}
 
-install-beside : (s : SessionState) (tries : ℕ) (o : Option LastRoutes) (d : Option DuoState) → install (beside s d) tries o ≡ with-duo d (install s tries o)
-install-beside s tries None d = refl
-install-beside s tries (Some l) d = by (not (is_idle s.world.links)) (not (may_install s.world l))
-  where
-    by : (busy other : Bool) → (if busy then says_only (beside s d) (InstallRefused Busy ∷ []) else if other then says_only (beside s d) (InstallRefused (refusal_cause s.world l) ∷ []) else install_now (beside s d) l tries)
-        ≡ with-duo d (if busy then says_only s (InstallRefused Busy ∷ []) else if other then says_only s (InstallRefused (refusal_cause s.world l) ∷ []) else install_now s l tries)
-    by true other = refl
-    by false true = refl
-    by false false = refl
+abbrev pub IsOtherDeed : Deed → Type 0
+IsOtherDeed d = IsOtherNote d.note
 
-step-beside : (s : SessionState) (o : Option Event) (d : Option DuoState) → step_or_idle (beside s d) o ≡ with-duo d (step_or_idle s o)
-step-beside s None d = refl
-step-beside s (Some e) d = refl
+other-law : (s : SessionState) (k : Kind) → IsOtherKind k → IsLaw IsOtherDeed s k
+other-law s k of_k = record {
+  reads = λ ls. tt;
+  happens = λ es ls are. tt;
+  plans = λ ahead fault is. tt;
+  installs = λ l tries is are may. tt;
+  restarts = λ e is. subst IsOtherKind is of_k;
+}
 
-pub outcome-beside : (s : SessionState) (c : Command) (d : Option DuoState) → IsOther c → outcome (beside s d) c ≡ option_map (with-duo d) (outcome s c)
-outcome-beside s (Walk host walk) d other = refl
-outcome-beside s (Map host depth tries) d other = map-beside s host d
-outcome-beside s (Circuit host depth) d other = refl
-outcome-beside s Routes d other = routes-beside s (complete_map s.last_map) d
-outcome-beside s (Install tries) d other = ap Some (install-beside s tries s.last_routes d)
-outcome-beside s (Begin h port sends recvs) d other = refl
-outcome-beside s (Close h port) d other = refl
-outcome-beside s (Poll h port) d other = refl
-outcome-beside s (Tokens h port) d other = refl
-outcome-beside s (Provide h port size prio) d other = refl
-outcome-beside s (Send h port dest dport prio len seed) d other = refl
-outcome-beside s (Plan ahead kind) d other = refl
-outcome-beside s (Step line) d other = ap Some (step-beside s (event_of s.world line) d)
-outcome-beside s Settle d other = refl
-outcome-beside s Finish d other = refl
-outcome-beside s (Duo e) d other = absurd (other e refl)
-outcome-beside s (Pull at) d other = refl
-outcome-beside s (Plug a b) d other = refl
-outcome-beside s Revoke d other = refl
-outcome-beside s Broken d other = refl
+pub other-deed : {s : SessionState} {c : Command} {d : Deed} → IsOther c → IsDeed s c d → IsOtherDeed d
+other-deed {s = s} {c = c} other (determined e) = subst (InDeed IsOtherDeed) e (by-kind IsOtherDeed s (kind_of c) (other-law s (kind_of c) (other-kind c other)))
+other-deed other (maps after j m words idle made is) = subst IsOtherDeed (sym is) tt
+other-deed other (circuits out told is) = subst IsOtherDeed (sym is) tt
+other-deed other (routes l found complete are is) = subst IsOtherDeed (sym is) tt
 
--- another command does the same beside other two hosts
+-- another command is the same deed beside other two hosts
+pub kind-beside : (s : SessionState) (k : Kind) (d : Option DuoState) → IsOtherKind k → deed_of_kind (beside s d) k ≡ deed_of_kind s k
+kind-beside s (OfTheDuo e) d other = absurd other
+kind-beside s _ d other = refl
+
+deed-beside : {s : SessionState} {c : Command} {x : Deed} → (d : Option DuoState) → IsOther c → IsDeed s c x → IsDeed (beside s d) c x
+deed-beside {s = s} {c = c} d other (determined is) = determined (kind-beside s (kind_of c) d (other-kind c other) ∙ is)
+deed-beside d other (maps after j m words idle made is) = maps after j m words idle made is
+deed-beside d other (circuits out told is) = circuits out told is
+deed-beside d other (routes l found complete are is) = routes l found complete are is
+
+pub noted-beside : (s : SessionState) (n : Note) (d : Option DuoState) → IsOtherNote n → beside (noted s n) d ≡ noted (beside s d) n
+noted-beside s Nothing d other = refl
+noted-beside s (KeepsMap l) d other = refl
+noted-beside s (KeepsRoutes l) d other = refl
+noted-beside s (KeepsDuo x) d other = absurd other
+
+noted-duo : (s : SessionState) (n : Note) → IsOtherNote n → (noted s n).duo ≡ s.duo
+noted-duo s Nothing other = refl
+noted-duo s (KeepsMap l) other = refl
+noted-duo s (KeepsRoutes l) other = refl
+noted-duo s (KeepsDuo x) other = absurd other
+
 pub does-beside : {s next : SessionState} {c : Command} {out : List Piece} → (d : Option DuoState) → IsOther c → Does s c out next → Does (beside s d) c out (beside next d)
-does-beside {s = s} {c = c} d other (determined is) = determined (outcome-beside s c d other ∙ ap (option_map (with-duo d)) is)
-does-beside {s = s} {c = c} d other (maps after j m words none made printed left) =
-    maps after j m words (outcome-beside s c d other ∙ ap (option_map (with-duo d)) none) made printed (ap (λ (x : SessionState). beside x d) left)
-does-beside d other (circuits is_told left) = circuits is_told (ap (λ (x : SessionState). beside x d) left)
-does-beside d other (routes l found complete are printed left) = routes l found complete are printed (ap (λ (x : SessionState). beside x d) left)
-
--- an outcome, where there is one, keeps them
-abbrev KeepsIn : SessionState → Option Outcome → Type 0
-KeepsIn s None = Unit {0}
-KeepsIn s (Some o) = o.after.duo ≡ s.duo
-
-map-keeps : (s : SessionState) (host : ℕ) → KeepsIn s (map_refused s host)
-map-keeps s host = by (is_idle s.world.links)
-  where
-    by : (idle : Bool) → KeepsIn s (if idle then None else Some (says_only s (MapBusy host ∷ [])))
-    by true = tt
-    by false = refl
-
-routes-keep : (s : SessionState) (o : Option LastMap) → KeepsIn s (routes_refused s o)
-routes-keep s None = refl
-routes-keep s (Some l) = tt
-
-install-keeps : (s : SessionState) (tries : ℕ) (o : Option LastRoutes) → (install s tries o).after.duo ≡ s.duo
-install-keeps s tries None = refl
-install-keeps s tries (Some l) = by (not (is_idle s.world.links)) (not (may_install s.world l))
-  where
-    by : (busy other : Bool) → (if busy then says_only s (InstallRefused Busy ∷ []) else if other then says_only s (InstallRefused (refusal_cause s.world l) ∷ []) else install_now s l tries).after.duo ≡ s.duo
-    by true other = refl
-    by false true = refl
-    by false false = refl
-
-step-keeps : (s : SessionState) (o : Option Event) → (step_or_idle s o).after.duo ≡ s.duo
-step-keeps s None = refl
-step-keeps s (Some e) = refl
-
-outcome-keeps : (s : SessionState) (c : Command) → IsOther c → KeepsIn s (outcome s c)
-outcome-keeps s (Walk host walk) other = refl
-outcome-keeps s (Map host depth tries) other = map-keeps s host
-outcome-keeps s (Circuit host depth) other = tt
-outcome-keeps s Routes other = routes-keep s (complete_map s.last_map)
-outcome-keeps s (Install tries) other = install-keeps s tries s.last_routes
-outcome-keeps s (Begin h port sends recvs) other = refl
-outcome-keeps s (Close h port) other = refl
-outcome-keeps s (Poll h port) other = refl
-outcome-keeps s (Tokens h port) other = refl
-outcome-keeps s (Provide h port size prio) other = refl
-outcome-keeps s (Send h port dest dport prio len seed) other = refl
-outcome-keeps s (Plan ahead kind) other = refl
-outcome-keeps s (Step line) other = step-keeps s (event_of s.world line)
-outcome-keeps s Settle other = refl
-outcome-keeps s Finish other = refl
-outcome-keeps s (Duo e) other = absurd (other e refl)
-outcome-keeps s (Pull at) other = refl
-outcome-keeps s (Plug a b) other = refl
-outcome-keeps s Revoke other = refl
-outcome-keeps s Broken other = refl
+does-beside {s = s} d other does = record {
+  deed = does.deed;
+  is = deed-beside d other does.is;
+  prints = does.prints;
+  leaves = ap (λ (x : SessionState). beside x d) does.leaves ∙ noted-beside (record s { world = acted_all s.world does.deed.acts }) does.deed.note d (other-deed other does.is);
+}
 
 does-keep : {s next : SessionState} {c : Command} {out : List Piece} → IsOther c → Does s c out next → next.duo ≡ s.duo
-does-keep {s = s} {c = c} other (determined is) = subst (KeepsIn s) is (outcome-keeps s c other)
-does-keep other (maps after j m words none made printed left) = ap (λ (x : SessionState). x.duo) left
-does-keep other (circuits is_told left) = ap (λ (x : SessionState). x.duo) left
-does-keep other (routes l found complete are printed left) = ap (λ (x : SessionState). x.duo) left
+does-keep {s = s} other does = ap (λ (x : SessionState). x.duo) does.leaves ∙ noted-duo (record s { world = acted_all s.world does.deed.acts }) does.deed.note (other-deed other does.is)
 
 pub others_keep_the_duo : OthersKeepTheDuo
 others_keep_the_duo s next c out other does = (does-keep other does, λ d. does-beside d other does)
-
--- a command that is cut short is so beside any two hosts
-acts-beside : (s : SessionState) (c : Command) (d : Option DuoState) → acts_of (beside s d) c ≡ acts_of s c
-acts-beside s (Walk host walk) d = refl
-acts-beside s (Map host depth tries) d = refl
-acts-beside s (Circuit host depth) d = refl
-acts-beside s Routes d = refl
-acts-beside s (Install tries) d = refl
-acts-beside s (Begin h port sends recvs) d = refl
-acts-beside s (Close h port) d = refl
-acts-beside s (Poll h port) d = refl
-acts-beside s (Tokens h port) d = refl
-acts-beside s (Provide h port size prio) d = refl
-acts-beside s (Send h port dest dport prio len seed) d = refl
-acts-beside s (Plan ahead kind) d = refl
-acts-beside s (Step line) d = refl
-acts-beside s Settle d = refl
-acts-beside s Finish d = refl
-acts-beside s (Duo e) d = refl
-acts-beside s (Pull at) d = refl
-acts-beside s (Plug a b) d = refl
-acts-beside s Revoke d = refl
-acts-beside s Broken d = refl
-
-stands-beside : {s : SessionState} {c : Command} {acts : List Act} → (d : Option DuoState) → StandsFor s c acts → StandsFor (beside s d) c acts
-stands-beside {s = s} {c = c} d (told is) = told (acts-beside s c d ∙ is)
-stands-beside d (asks after j m words idle made are) = asks after j m words idle made are
-
-pub cut-beside : (s : SessionState) (c : Command) (v : WorldState) (d : Option DuoState) → IsCutShort s c v → IsCutShort (beside s d) c v
-cut-beside s c v d cut = record { acts = cut.acts; are = stands-beside d cut.are; way = cut.way }
 
 -- one event more
 after-more : (d : DuoState) (es : List DuoEvent) (e : DuoEvent) → after_all d (es ++ e ∷ []) ≡ (duo_step (after_all d es) e).1
@@ -280,6 +194,22 @@ line-or-other (Pull at) = inr (λ e p. cc)
 line-or-other (Plug a b) = inr (λ e p. cc)
 line-or-other Revoke = inr (λ e p. cc)
 line-or-other Broken = inr (λ e p. cc)
+
+-- a command that is cut short is so beside any two hosts
+none-done : (w v : WorldState) (acts : List Act) → acts ≡ [] → IsPartActed w acts v → v ≡ w
+none-done w v acts none p = by p.done (sym none ∙ p.front.both) p.there
+  where
+    by : (done : List Act) → [] ≡ done ++ p.front.rest → v ≡ acted_all w done → v ≡ w
+    by [] e same = same
+    by (a ∷ done) e same = cc
+
+pub cut-beside : (s : SessionState) (c : Command) (v : WorldState) (d : Option DuoState) → IsCutShort s c v → IsCutShort (beside s d) c v
+cut-beside s c v d (undone same) = undone same
+cut-beside s c v d (part_done x is way) = by (line-or-other c)
+  where
+    by : ((e : DuoEvent) × (c ≡ Duo e)) ⊎ IsOther c → IsCutShort (beside s d) c v
+    by (inl (e, same)) = undone (none-done s.world v x.acts (ap (λ (y : Deed). y.acts) (duo-deed e same is)) way)
+    by (inr other) = part_done x (deed-beside d other is) way
 
 does-reach : {s next : SessionState} {c : Command} {out : List Piece} → (n : Network) → IsSaid n c → AreReached s.duo → Does s c out next → AreReached next.duo
 does-reach {s = s} {next = next} {c = c} n said is does = by (line-or-other c)

@@ -1,5 +1,5 @@
 -- A plug joins two ports unless it is refused, and its line says why.
-use Rattle.std.proofs.Common.{◌≡◌, Bool, true, false, not, ◌&&◌, nat_lt, [], ◌∷◌, ◌++◌, length, Option, Some, None, is_some, is_none, refl, sym, ap, ◌∙◌, subst, arith, true≢false, if◌then◌else◌}
+use Rattle.std.proofs.Common.{◌≡◌, Bool, true, false, not, ◌&&◌, nat_lt, List, [], ◌∷◌, ◌++◌, length, Option, Some, None, is_some, is_none, refl, sym, ap, ◌∙◌, subst, arith, true≢false, if◌then◌else◌}
 use Rattle.std.proofs.lemmas.Bool.Decides.{nat_tests}
 use Rattle.std.proofs.lemmas.Option.{same_Some}
 use Rattle.net_defs.specs.declared.vertex.End.{End}
@@ -17,9 +17,14 @@ use Rattle.world_defs.specs.World.{WorldState, fabric_of}
 use Rattle.world_defs.specs.Step.{step, of_links, plugged}
 use Rattle.run_defs.specs.declared.line.PlugWords.{PlugWords}
 use Rattle.run_defs.specs.declared.line.PlugWords.TheVariants.{Done as Joined, PortUsed, Full}
-use Rattle.run_defs.specs.Outcome.{Outcome, words_of_plug, plug_done}
-use Rattle.run_defs.specs.Run.Does.{determined}
-use Rattle.promise_laws.specs.CableLines.{IsPlugged, PlugLineIsTrue}
+use Rattle.run_defs.specs.declared.command.Command.TheVariants.{Plug}
+use Rattle.run_defs.specs.declared.line.Line.TheVariants.{Plug as PlugLine}
+use Rattle.run_defs.specs.Outcome.{Outcome, words_of_plug, happening, seen}
+use Rattle.run_defs.specs.Output.{Piece}
+use Rattle.run_defs.specs.Session.{SessionState}
+use Rattle.run_defs.proofs.Doing.{Doing, doing}
+use Rattle.run_defs.proofs.Doing.Doing.{determined}
+use Rattle.promise_laws.specs.CableLines.{IsPlugged, IsPlugTold, PlugLineIsTrue}
 
 -- two ports that are there may only be used
 refusal-used : (n : Network) (a b : End) → has_port n a ≡ true → has_port n b ≡ true → cable_refusal n a b ≡ (if is_used n a b then Some Used else None)
@@ -73,12 +78,15 @@ plug-event w a b at_a at_b =
     subst (λ o. IsPlugged w (joined_by w a b o left) a b (words_by o left)) (sym (refusal-used (fabric_of w) a b at_a at_b))
     (plugged-so w a b (is_used (fabric_of w) a b) left refl refl)
 
-pub plug_line-true : PlugLineIsTrue
-plug_line-true s next a b out at_a at_b (determined e) =
+plug-so : (s next : SessionState) (a b : End) (out : List Piece) → has_port (fabric_of s.world) a ≡ true → has_port (fabric_of s.world) b ≡ true → Doing s (Plug a b) out next → IsPlugTold s next a b out
+plug-so s next a b out at_a at_b (determined e) =
     let words : PlugWords = words_of_plug s.world a b in
-    let o : Outcome = plug_done s a b (step s.world (PlugEvent a b)) in
+    let o : Outcome = seen s (happening (PlugEvent a b ∷ []) (PlugLine a b words ∷ [])) in
     let same : o ≡ record { output = out; after = next } = same_Some o (record { output = out; after = next }) e in (
       words,
       sym (ap (λ (x : Outcome). x.output) same),
       subst (λ (x : Outcome). IsPlugged s.world x.after.world a b words) same (plug-event s.world a b at_a at_b),
     )
+
+pub plug_line-true : PlugLineIsTrue
+plug_line-true s next a b out at_a at_b d = plug-so s next a b out at_a at_b (doing d)

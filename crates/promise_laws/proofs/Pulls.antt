@@ -1,5 +1,5 @@
 -- A pull is done where the port has a cable, and its line says so.
-use Rattle.std.proofs.Common.{◌≡◌, ℕ, Bool, true, false, Option, Some, None, refl, sym, ap, subst, true≢false}
+use Rattle.std.proofs.Common.{◌≡◌, ℕ, Bool, true, false, List, [], ◌∷◌, Option, Some, None, refl, sym, ap, subst, true≢false}
 use Rattle.std.specs.Prelude.{IsSome}
 use Rattle.std.proofs.lemmas.Option.{same_Some}
 use Rattle.net_defs.specs.declared.vertex.End.{End}
@@ -13,9 +13,14 @@ use Rattle.world_defs.specs.declared.effect.Said.TheVariants.{Done}
 use Rattle.world_defs.specs.World.{WorldState, fabric_of}
 use Rattle.world_defs.specs.Step.{step, of_links, pulled}
 use Rattle.world_laws.proofs.Idling.{step-idle}
-use Rattle.run_defs.specs.Outcome.{Outcome, is_done, pull_done}
-use Rattle.run_defs.specs.Run.Does.{determined}
-use Rattle.promise_laws.specs.CableLines.{IsPulled, PullLineIsTrue}
+use Rattle.run_defs.specs.declared.command.Command.TheVariants.{Pull}
+use Rattle.run_defs.specs.declared.line.Line.TheVariants.{Pull as PullLine}
+use Rattle.run_defs.specs.Outcome.{Outcome, is_done, happening, seen}
+use Rattle.run_defs.specs.Output.{Piece}
+use Rattle.run_defs.specs.Session.{SessionState}
+use Rattle.run_defs.proofs.Doing.{Doing, doing}
+use Rattle.run_defs.proofs.Doing.Doing.{determined}
+use Rattle.promise_laws.specs.CableLines.{IsPulled, IsPullTold, PullLineIsTrue}
 
 -- something is there
 pub there-or : {X : Type 0} (o : Option X) → (o ≡ None → ⊥) → IsSome o
@@ -49,12 +54,15 @@ pull-event w at =
     let idle = step-idle w (PullEvent at) in
     pulled-so w at (leaving w.links.cables at) refl idle.from idle.to
 
-pub pull_line-true : PullLineIsTrue
-pull_line-true s next at out (determined e) =
+pull-so : (s next : SessionState) (at : End) (out : List Piece) → Doing s (Pull at) out next → IsPullTold s next at out
+pull-so s next at out (determined e) =
     let done : Bool = is_done (step s.world (PullEvent at)).0 in
-    let o : Outcome = pull_done s at (step s.world (PullEvent at)) in
+    let o : Outcome = seen s (happening (PullEvent at ∷ []) (PullLine at done ∷ [])) in
     let same : o ≡ record { output = out; after = next } = same_Some o (record { output = out; after = next }) e in (
       done,
       sym (ap (λ (x : Outcome). x.output) same),
       subst (λ (x : Outcome). IsPulled s.world x.after.world at done) same (pull-event s.world at),
     )
+
+pub pull_line-true : PullLineIsTrue
+pull_line-true s next at out d = pull-so s next at out (doing d)

@@ -1,28 +1,25 @@
 -- The lines of a run show what its acts hand to clients, and what sends were accepted with.
-use Rattle.std.proofs.Common.{◌≡◌, ◌+◌, ℕ, Bool, true, false, not, List, [], ◌∷◌, ◌++◌, map, length, Option, Some, None, option_map, length-append, refl, sym, ap, ◌∙◌, subst, arith, append_assoc, append-nil, if◌then◌else◌}
+use Rattle.std.proofs.Common.{◌≡◌, ◌+◌, ℕ, false, List, [], ◌∷◌, ◌++◌, map, length, Option, Some, None, option_map, length-append, refl, sym, ap, ◌∙◌, subst, arith, append_assoc, append-nil, if◌then◌else◌}
+use Rattle.std.specs.Prelude.{◌-◌}
 use Rattle.std.specs.List.{AllByRecursion, filter}
 use Rattle.net_defs.specs.declared.route.Route.{Route}
 use Rattle.net_defs.specs.declared.vertex.End.{End}
 use Rattle.net_defs.specs.Network.{Network, IsFabric}
 use Rattle.cable_history.specs.Crossed.{leaving}
 use Rattle.net_defs.proofs.Distinct.{all-push}
-use Rattle.link_defs.specs.Links.{is_idle}
+use Rattle.journal_defs.specs.declared.entry.Entry.{Entry}
 use Rattle.gm_defs.specs.declared.frame.ConnectionKey.{ConnectionKey}
 use Rattle.gm_defs.specs.Token.{PortState}
-use Rattle.duo_defs.specs.declared.effect.DuoEffect.{DuoEffect}
-use Rattle.duo_defs.specs.Duo.{DuoState}
-use Rattle.duo_defs.specs.Step.{step as duo_step}
 use Rattle.map_defs.specs.NetMap.{NetMap}
 use Rattle.map_defs.specs.Orientation.{order_of}
 use Rattle.map_defs.specs.Ranks.{ranks_of}
-use Rattle.world_defs.specs.declared.effect.Effect.{Effect}
 use Rattle.world_defs.specs.declared.effect.Said.{Said}
 use Rattle.world_defs.specs.declared.event.Event.{Event}
 use Rattle.world_defs.specs.declared.event.Event.TheVariants.{Inject, GiveUp, Advance, Lose, Repeat, Hold, Reset, Flip, Expire, Replay, Pull, Plug, Send, Poll}
 use Rattle.world_defs.specs.Node.{port_at}
 use Rattle.world_defs.specs.Client.{Called, sent_by}
 use Rattle.world_defs.specs.Table.{Adoption}
-use Rattle.world_defs.specs.World.{WorldState, new_world, node_at, client_at, adopted_by, may_adopt}
+use Rattle.world_defs.specs.World.{WorldState, new_world, node_at, client_at, adopted_by}
 use Rattle.world_defs.specs.Sound.{IsPrefix}
 use Rattle.world_defs.specs.Step.{wanted, step}
 use Rattle.world_defs.specs.Log.{Log}
@@ -34,21 +31,22 @@ use Rattle.run_defs.specs.declared.command.Command.TheVariants.{Walk, Map, Circu
 use Rattle.run_defs.specs.declared.command.StepLine.{StepLine}
 use Rattle.run_defs.specs.declared.command.StepLine.TheVariants.{Inject as InjectLine, GiveUp as GiveUpLine, Advance as AdvanceLine, Lose as LoseLine, Repeat as RepeatLine, Hold as HoldLine, Reset as ResetLine, Flip as FlipLine, Expire as ExpireLine, Replay as ReplayLine}
 use Rattle.run_defs.specs.declared.line.ClientCall.TheVariants.{Send as SendCall, Poll as PollCall}
-use Rattle.run_defs.specs.declared.line.InstallCause.TheVariants.{Busy}
 use Rattle.run_defs.specs.declared.line.MapWords.{MapWords}
 use Rattle.run_defs.specs.declared.line.MapWords.TheVariants.{Complete, Doubtful, IncompleteDepth, IncompleteNodes}
 use Rattle.run_defs.specs.declared.line.Line.{Line}
-use Rattle.run_defs.specs.declared.line.Line.TheVariants.{Client, MapBusy, InstallRefused, Installed, EndRoutes, Broken as BrokenLine, EndBroken}
+use Rattle.run_defs.specs.declared.line.Line.TheVariants.{Client, Map as MapLine, Installed, EndRoutes, Step as StepOutput, Broken as BrokenLine, EndBroken}
 use Rattle.run_defs.specs.Circuit.{IsCircuitTold}
 use Rattle.run_defs.specs.Circuit.IsCircuitTold.{whole, too_many_nodes}
-use Rattle.run_defs.specs.Duos.{begun}
 use Rattle.run_defs.specs.Output.{Piece, OneLine, MapLines, lines}
-use Rattle.run_defs.specs.Session.{SessionState, LastMap, LastRoutes, complete_map}
-use Rattle.run_defs.specs.Outcome.{Outcome, says_only, called, on_channel, event_of, fault_of, stepped, step_or_idle, token_lines, table_line, install_done, install_now, install, map_refused, routes_refused, duo_done, outcome, set_of, may_install, refusal_cause, revocations, broken_routes, broken_lines}
-use Rattle.run_defs.specs.Run.{Does, Runs, IsRun, map_pieces, route_line, rank_line, routes_lines}
-use Rattle.run_defs.specs.Run.Does.{determined, maps, circuits, routes}
+use Rattle.run_defs.specs.Session.{SessionState, LastRoutes, complete_map}
+use Rattle.run_defs.specs.Deed.{Deed}
+use Rattle.run_defs.specs.Mapped.{asks_of}
+use Rattle.run_defs.specs.Outcome.{client_lines, on_channel, event_of, words_of, fault_of, token_lines, table_line, install_lines, set_of, installation, revocations, broken_routes, broken_lines, install_now, deed_of}
+use Rattle.run_defs.specs.Run.{IsDeed, Does, Runs, IsRun, map_pieces, route_line, rank_line, routes_lines}
+use Rattle.run_defs.specs.Run.IsDeed.{determined, maps, circuits, routes}
+use Rattle.run_defs.proofs.Doing.{does-world, revoked-row}
+use Rattle.run_defs.proofs.ByKind.{InDeed, refused-map, refused-routes, by-event, by-install}
 use Rattle.run_defs.specs.Run.Runs.{ended, goes_on}
-use Rattle.mapping_laws.proofs.Sessions.{revoked-row}
 use Rattle.run_laws.specs.Acts.{IsActOf}
 use Rattle.run_laws.proofs.RunsOnce.{runs-more}
 use Rattle.message_laws.proofs.HostTickets.{all-front}
@@ -57,10 +55,8 @@ use Rattle.seen_laws.proofs.Accepted.{IsNoSend, none-accepted, accepted-sent}
 use Rattle.seen_laws.proofs.Fronts.{polled-front}
 use Rattle.seen_laws.proofs.Others.{seen-of_connections}
 use Rattle.seen_laws.proofs.Polled.{IsNoPoll, none-handed, polled-got}
-use Rattle.promise_laws.specs.CommandActs.{step_acts, install_now_acts, install_acts, acts_of, StandsFor, HasSoundActs}
-use Rattle.promise_laws.specs.CommandActs.StandsFor.{determined as told, asks}
 use Rattle.promise_laws.specs.ReceivedLines.{received_in_line, received_in, send_answer, send_answers, is_send, accepted_as, accepted_by_lines, accepted_of, RunsReceiveAsSent}
-use Rattle.promise_laws.proofs.Acting.{acted-append, may-append, idle-there, commands_have_sound_acts}
+use Rattle.promise_laws.proofs.Acting.{acted-append, may-append, deeds_are_single_acts}
 
 -- events by which no client sends or polls
 abbrev IsCalm : Event → Type 0
@@ -157,11 +153,11 @@ event-shows : (w : WorldState) (cmd : Command) (l : Line) (e : Event) → is_sen
 event-shows w cmd l e other is calm = silent-shows w cmd (OneLine l ∷ []) (Happens e ∷ []) other (one-silent l is) (calm-still w (e ∷ []) (calm, tt))
 
 -- a poll, and a send
-poll-shows : (s : SessionState) (i p : ℕ) → Shows s.world (PollCommand i p) (called s PollCall i p (step s.world (Poll i p))).output (Happens (Poll i p) ∷ [])
+poll-shows : (s : SessionState) (i p : ℕ) → Shows s.world (PollCommand i p) (lines (client_lines PollCall i p (step s.world (Poll i p)).0)) (Happens (Poll i p) ∷ [])
 poll-shows s i p = record { handed = λ h port. refl; accepted = λ c cs more. refl; answered = λ cs. omega arith }
 
 send-shows : (s : SessionState) (h port dest dport prio len seed : ℕ)
-    → Shows s.world (SendCommand h port dest dport prio len seed) (called s SendCall h port (step s.world (Send h port dest dport prio len seed))).output (Happens (Send h port dest dport prio len seed) ∷ [])
+    → Shows s.world (SendCommand h port dest dport prio len seed) (lines (client_lines SendCall h port (step s.world (Send h port dest dport prio len seed)).0)) (Happens (Send h port dest dport prio len seed) ∷ [])
 send-shows s h port dest dport prio len seed =
     let call : Called = sent_by (node_at s.world h) (wanted port dest dport prio len seed) (client_at s.world h port) in
     record {
@@ -170,19 +166,9 @@ send-shows s h port dest dport prio len seed =
       answered = λ cs. omega arith;
     }
 
--- what a command shows where it is determined
-abbrev ShowsIn : SessionState → Command → Option Outcome → Option (List Act) → Type 0
-ShowsIn s cmd (Some o) (Some acts) = Shows s.world cmd o.output acts
-ShowsIn s cmd (Some o) None = ⊥
-ShowsIn s cmd None acts = Unit {0}
-
--- a step
-stepped-silent : (s : SessionState) (r : Effect × WorldState) → IsSilent (stepped s r).output
-stepped-silent s (x, w) = one-silent _ tt
-
-step-shows : (s : SessionState) (line : StepLine) (o : Option Event) → ((e : Event) → o ≡ Some e → IsCalm e) → Shows s.world (Step line) (step_or_idle s o).output (step_acts o)
-step-shows s line None calm = quiet-shows s.world (Step line) _ refl tt
-step-shows s line (Some e) calm = silent-shows s.world (Step line) (stepped s (step s.world e)).output (Happens e ∷ []) refl (stepped-silent s (step s.world e)) (calm-still s.world (e ∷ []) (calm e refl, tt))
+-- what a deed shows
+abbrev ShowsDeed : SessionState → Command → Deed → Type 0
+ShowsDeed s cmd d = Shows s.world cmd d.output d.acts
 
 channel-calm : (w : WorldState) (at : End) (event : ℕ → Event) → ((c : ℕ) → IsCalm (event c)) → (e : Event) → on_channel w at event ≡ Some e → IsCalm e
 channel-calm w at event calm e is = by (leaving w.links.cables at) is
@@ -207,48 +193,24 @@ line-calm w (ExpireLine h peer) e is = some-calm (Expire h peer) e is tt
 line-calm w (ReplayLine serial) e is = some-calm (Replay serial) e is tt
 
 -- an installation
-done-silent : (s : SessionState) (hosts : List ℕ) (r : Log ℕ) → IsSilent (install_done s hosts r).output
-done-silent s hosts r = silent-then (Installed r.value (length hosts)) (lines (map (table_line r.world) hosts)) tt (lines-silent (map (table_line r.world) hosts) (tables-other hosts))
+done-silent : (hosts : List ℕ) (r : Log ℕ) → IsSilent (lines (install_lines hosts r))
+done-silent hosts r = silent-then (Installed r.value (length hosts)) (lines (map (table_line r.world) hosts)) tt (lines-silent (map (table_line r.world) hosts) (tables-other hosts))
   where
     tables-other : (hs : List ℕ) → AllByRecursion IsOtherLine (map (table_line r.world) hs)
     tables-other [] = tt
     tables-other (h ∷ hs) = (tt, tables-other hs)
 
-install-now-shows : (s : SessionState) (l : LastRoutes) (tries : ℕ) → Shows s.world (Install tries) (install_now s l tries).output (install_now_acts s.world l tries)
+install-now-shows : (s : SessionState) (l : LastRoutes) (tries : ℕ) → ShowsDeed s (Install tries) (install_now s.world l tries)
 install-now-shows s l tries =
     let w : WorldState = adopted_by s.world l.mapper l.routes in
-    let r : Log ℕ = log.install (set_of s.world l) l.hosts tries w in
-    silent-shows s.world (Install tries) (install_done s l.hosts r).output (install_now_acts s.world l tries) refl (done-silent s l.hosts r)
+    let r : Log ℕ = installation s.world l tries in
+    silent-shows s.world (Install tries) (lines (install_lines l.hosts r)) (Adopts l.mapper l.routes ∷ map Happens r.events) refl (done-silent l.hosts r)
     (still-then s.world (Adopts l.mapper l.routes) (map Happens r.events) tt tt (calm-still w r.events (install-row calm-asks (λ dst part. tt) (set_of s.world l) l.hosts tries w).kinds))
 
-install-shows : (s : SessionState) (tries : ℕ) (o : Option LastRoutes) → Shows s.world (Install tries) (install s tries o).output (install_acts s.world tries o)
-install-shows s tries None = quiet-shows s.world (Install tries) _ refl tt
-install-shows s tries (Some l) = by (not (is_idle s.world.links)) (not (may_install s.world l))
-  where
-    by : (busy other : Bool) → Shows s.world (Install tries) (if busy then says_only s (InstallRefused Busy ∷ []) else if other then says_only s (InstallRefused (refusal_cause s.world l) ∷ []) else install_now s l tries).output
-        (if busy then [] else if other then [] else install_now_acts s.world l tries)
-    by true other = quiet-shows s.world (Install tries) _ refl tt
-    by false true = quiet-shows s.world (Install tries) _ refl tt
-    by false false = install-now-shows s l tries
-
--- a refused map, routes without a map, and the places of tokens
-busy-shows : (s : SessionState) (host depth tries : ℕ) → ShowsIn s (Map host depth tries) (map_refused s host) (acts_of s (Map host depth tries))
-busy-shows s host depth tries = by (is_idle s.world.links)
-  where
-    by : (idle : Bool) → ShowsIn s (Map host depth tries) (if idle then None else Some (says_only s (MapBusy host ∷ []))) (if idle then None else Some [])
-    by true = tt
-    by false = quiet-shows s.world (Map host depth tries) _ refl tt
-
-refused-shows : (s : SessionState) (o : Option LastMap) → ShowsIn s Routes (routes_refused s o) (Some [])
-refused-shows s None = quiet-shows s.world Routes _ refl tt
-refused-shows s (Some l) = tt
-
+-- the places of tokens
 tokens-silent : (h port : ℕ) (o : Option PortState) → IsSilent (lines (token_lines h port o))
 tokens-silent h port None = one-silent _ tt
 tokens-silent h port (Some p) = one-silent _ tt
-
-duo-silent : (s : SessionState) (r : DuoEffect × DuoState) → IsSilent (duo_done s r).output
-duo-silent s (effect, d) = one-silent _ tt
 
 -- routes that are broken
 broken-silent : (w : WorldState) (o : Option Adoption) → IsSilent (lines (broken_lines w o))
@@ -257,40 +219,29 @@ broken-silent w (Some a) =
     let line : Route → Line = λ r. BrokenLine r.from r.to in
     lines-silent (map line (broken_routes w a) ++ EndBroken ∷ []) (mapped-other line (broken_routes w a) (EndBroken ∷ []) (λ r. tt) (tt, tt))
 
-outcome-shows : (s : SessionState) (cmd : Command) → ShowsIn s cmd (outcome s cmd) (acts_of s cmd)
-outcome-shows s (Walk host walk) = quiet-shows s.world (Walk host walk) _ refl tt
-outcome-shows s (Map host depth tries) = busy-shows s host depth tries
-outcome-shows s (Circuit host depth) = tt
-outcome-shows s Routes = refused-shows s (complete_map s.last_map)
-outcome-shows s (Install tries) = install-shows s tries s.last_routes
-outcome-shows s (BeginCommand h port sends recvs) = event-shows s.world (BeginCommand h port sends recvs) _ (Event.Begin h port sends recvs) refl tt tt
-outcome-shows s (CloseCommand h port) = event-shows s.world (CloseCommand h port) _ (Event.Close h port) refl tt tt
-outcome-shows s (PollCommand h port) = poll-shows s h port
-outcome-shows s (Tokens h port) = silent-shows s.world (Tokens h port) _ [] refl (tokens-silent h port (port_at (node_at s.world h) port)) (no-acts s.world)
-outcome-shows s (ProvideCommand h port size prio) = event-shows s.world (ProvideCommand h port size prio) _ (Event.Provide h port size prio) refl tt tt
-outcome-shows s (SendCommand h port dest dport prio len seed) = send-shows s h port dest dport prio len seed
-outcome-shows s (Plan ahead kind) = silent-shows s.world (Plan ahead kind) _ (Plans ahead (fault_of kind) ∷ []) refl (one-silent _ tt) (still-then s.world (Plans ahead (fault_of kind)) [] tt tt (no-acts _))
-outcome-shows s (Step line) = step-shows s line (event_of s.world line) (line-calm s.world line)
-outcome-shows s Settle = silent-shows s.world Settle _ (map Happens (log.settle s.world).events) refl (one-silent _ tt) (calm-still s.world (log.settle s.world).events (settle-row calm-settles s.world).kinds)
-outcome-shows s Finish = quiet-shows s.world Finish _ refl tt
-outcome-shows s (Duo e) = silent-shows s.world (Duo e) _ [] refl (duo-silent s (duo_step (begun s.duo) e)) (no-acts s.world)
-outcome-shows s (PullCommand at) = event-shows s.world (PullCommand at) _ (Pull at) refl tt tt
-outcome-shows s (PlugCommand a b) = event-shows s.world (PlugCommand a b) _ (Plug a b) refl tt tt
-outcome-shows s RevokeCommand = silent-shows s.world RevokeCommand _ (map Happens (revocations s.world)) refl (one-silent _ tt) (calm-still s.world (revocations s.world) (revoked-row {Q = IsCalm} (λ h. tt) s.world).kinds)
-outcome-shows s Broken = silent-shows s.world Broken _ [] refl (broken-silent s.world s.world.adopted) (no-acts s.world)
-
--- the acts that a command stands for, with what its lines show
-record Showing (s : SessionState) (cmd : Command) (out : List Piece) : Type 0 where
-  acts : List Act
-  are : StandsFor s cmd acts
-  shows : Shows s.world cmd out acts
-
-determined-shows : (s : SessionState) (cmd : Command) (o : Outcome) → outcome s cmd ≡ Some o → Showing s cmd o.output
-determined-shows s cmd o e = by (acts_of s cmd) refl (subst (λ x. ShowsIn s cmd x (acts_of s cmd)) e (outcome-shows s cmd))
-  where
-    by : (a : Option (List Act)) → acts_of s cmd ≡ a → ShowsIn s cmd (Some o) a → Showing s cmd o.output
-    by (Some acts) p k = record { acts = acts; are = told p; shows = k }
-    by None p k = absurd k
+deed-shows : (s : SessionState) (cmd : Command) → InDeed (ShowsDeed s cmd) (deed_of s cmd)
+deed-shows s (Walk host walk) = quiet-shows s.world (Walk host walk) _ refl tt
+deed-shows s (Map host depth tries) = refused-map (ShowsDeed s (Map host depth tries)) s.world host (quiet-shows s.world (Map host depth tries) _ refl tt)
+deed-shows s (Circuit host depth) = tt
+deed-shows s Routes = refused-routes (ShowsDeed s Routes) (complete_map s.last_map) (quiet-shows s.world Routes _ refl tt)
+deed-shows s (Install tries) = by-install (ShowsDeed s (Install tries)) s.world tries s.last_routes (λ cause. quiet-shows s.world (Install tries) _ refl tt) (λ l are may. install-now-shows s l tries)
+deed-shows s (BeginCommand h port sends recvs) = event-shows s.world (BeginCommand h port sends recvs) _ (Event.Begin h port sends recvs) refl tt tt
+deed-shows s (CloseCommand h port) = event-shows s.world (CloseCommand h port) _ (Event.Close h port) refl tt tt
+deed-shows s (PollCommand h port) = poll-shows s h port
+deed-shows s (Tokens h port) = silent-shows s.world (Tokens h port) _ [] refl (tokens-silent h port (port_at (node_at s.world h) port)) (no-acts s.world)
+deed-shows s (ProvideCommand h port size prio) = event-shows s.world (ProvideCommand h port size prio) _ (Event.Provide h port size prio) refl tt tt
+deed-shows s (SendCommand h port dest dport prio len seed) = send-shows s h port dest dport prio len seed
+deed-shows s (Plan ahead kind) = silent-shows s.world (Plan ahead kind) _ (Plans ahead (fault_of kind) ∷ []) refl (one-silent _ tt) (still-then s.world (Plans ahead (fault_of kind)) [] tt tt (no-acts _))
+deed-shows s (Step line) =
+    by-event (ShowsDeed s (Step line)) s.world (λ effect v. StepOutput (words_of v effect) ∷ []) (event_of s.world line) (quiet-shows s.world (Step line) _ refl tt)
+    (λ e is. event-shows s.world (Step line) _ e refl tt (line-calm s.world line e is))
+deed-shows s Settle = silent-shows s.world Settle _ (map Happens (log.settle s.world).events) refl (one-silent _ tt) (calm-still s.world (log.settle s.world).events (settle-row calm-settles s.world).kinds)
+deed-shows s Finish = quiet-shows s.world Finish _ refl tt
+deed-shows s (Duo e) = silent-shows s.world (Duo e) _ [] refl (one-silent _ tt) (no-acts s.world)
+deed-shows s (PullCommand at) = event-shows s.world (PullCommand at) _ (Pull at) refl tt tt
+deed-shows s (PlugCommand a b) = event-shows s.world (PlugCommand a b) _ (Plug a b) refl tt tt
+deed-shows s RevokeCommand = silent-shows s.world RevokeCommand _ (map Happens (revocations s.world)) refl (one-silent _ tt) (calm-still s.world (revocations s.world) (revoked-row {Q = IsCalm} (λ h. tt) s.world).kinds)
+deed-shows s Broken = silent-shows s.world Broken _ [] refl (broken-silent s.world s.world.adopted) (no-acts s.world)
 
 -- a map that was made, of circuit links too, and routes
 pieces-silent : (words : MapWords) (m : NetMap) → IsSilent (map_pieces words m)
@@ -310,22 +261,22 @@ routes-silent m found =
     mapped-other route_line found (ranks ++ EndRoutes ∷ []) (λ r. tt) (mapped-other (rank_line m) (ranks_of m (order_of m)) (EndRoutes ∷ []) (λ k. tt) (tt, tt)) in
     lines-silent (routes_lines m found) (tt, subst (AllByRecursion IsOtherLine) (sym (append_assoc (map route_line found) ranks (EndRoutes ∷ []))) all)
 
-still-showing : (s : SessionState) (cmd : Command) (out : List Piece) → acts_of s cmd ≡ Some [] → is_send cmd ≡ false → IsSilent out → Showing s cmd out
-still-showing s cmd out none other silent = record { acts = []; are = told none; shows = silent-shows s.world cmd out [] other silent (no-acts s.world) }
+still-shows : (s : SessionState) (cmd : Command) (out : List Piece) → is_send cmd ≡ false → IsSilent out → Shows s.world cmd out []
+still-shows s cmd out other silent = silent-shows s.world cmd out [] other silent (no-acts s.world)
 
-does-show : {s next : SessionState} {cmd : Command} {out : List Piece} → Does s cmd out next → Showing s cmd out
-does-show {s = s} {next = next} {cmd = cmd} {out = out} (determined e) = determined-shows s cmd (record { output = out; after = next }) e
-does-show {s = s} {out = out} (maps {host = host} {depth = depth} {tries = tries} after j m words none made printed left) =
-    let l : Log log.AskedAll = log.asks s.world.links.cables.changes host tries (map (λ e. e.walk) j) s.world in
-    let silent : IsSilent out = subst IsSilent (sym printed) (silent-then _ (map_pieces words m) tt (pieces-silent words m)) in
-    record {
-      acts = map Happens l.events;
-      are = asks after j m words (idle-there s host none) made refl;
-      shows = silent-shows s.world (Map host depth tries) out (map Happens l.events) refl silent
-          (calm-still s.world l.events (asks-row calm-asks (λ h walk looped. tt) s.world.links.cables.changes host tries (map (λ e. e.walk) j) s.world).kinds);
-    }
-does-show {s = s} {cmd = cmd} {out = out} (circuits so left) = still-showing s cmd out refl refl (circuit-silent so)
-does-show {s = s} {cmd = cmd} {out = out} (routes l found complete are printed left) = still-showing s cmd out refl refl (subst IsSilent (sym printed) (routes-silent l.made found))
+shows-so : {s : SessionState} {cmd : Command} {d : Deed} → IsDeed s cmd d → ShowsDeed s cmd d
+shows-so {s = s} {cmd = cmd} (determined e) = subst (InDeed (ShowsDeed s cmd)) e (deed-shows s cmd)
+shows-so {s = s} {cmd = cmd} (maps {host = host} {depth = depth} {tries = tries} after j m words idle made is) =
+    let l : Log log.AskedAll = asks_of host tries j s.world in
+    let row = asks-row calm-asks (λ h walk looped. tt) s.world.links.cables.changes host tries (map (λ (e : Entry). e.walk) j) s.world in
+    let line : Line = MapLine host words (length j) (after.injected - s.world.injected) in
+    subst (ShowsDeed s cmd) (sym is)
+    (silent-shows s.world cmd (OneLine line ∷ map_pieces words m) (map Happens l.events) refl (silent-then line (map_pieces words m) tt (pieces-silent words m)) (calm-still s.world l.events row.kinds))
+shows-so {s = s} {cmd = cmd} (circuits out so is) = subst (ShowsDeed s cmd) (sym is) (still-shows s cmd out refl (circuit-silent so))
+shows-so {s = s} {cmd = cmd} (routes l found complete are is) = subst (ShowsDeed s cmd) (sym is) (still-shows s cmd (lines (routes_lines l.made found)) refl (routes-silent l.made found))
+
+does-show : {s next : SessionState} {cmd : Command} {out : List Piece} → (d : Does s cmd out next) → Shows s.world cmd out d.deed.acts
+does-show {s = s} {cmd = cmd} d = subst (λ ps. Shows s.world cmd ps d.deed.acts) (sym d.prints) (shows-so d.is)
 
 -- lines, answers and acts one after another
 received-append : (h port : ℕ) (xs ys : List Piece) → received_in h port (xs ++ ys) ≡ received_in h port xs ++ received_in h port ys
@@ -381,11 +332,10 @@ module _ (n : Network) (f : IsFabric n) where
       → Tells s.world last.world cs out
   runs-tell done before of_n all run ended = record { acts = []; may = tt; leads = refl; handed = λ h port. refl; accepted = λ c. refl; answered = refl }
   runs-tell {s = s} {last = last} done before of_n all run (goes_on {next = next} {c = c} {cs = cs} {out = printed} {rest = rest} d r e) =
-      let k : HasSoundActs s c next = commands_have_sound_acts n done before printed s next c f of_n all.0 run d in
-      let g : Showing s c printed = does-show d in
-      let one : Shows s.world c printed k.acts = subst (Shows s.world c printed) (k.one g.acts g.are) g.shows in
+      let may = (deeds_are_single_acts n done before s c d.deed f of_n all.0 run d.is).may in
+      let one : Shows s.world c printed d.deed.acts = does-show d in
       let t : Tells next.world last.world cs rest = runs-tell (done ++ c ∷ []) (before ++ printed) (all-push (IsActOf n) done c of_n all.0) all.1 (runs-more c printed run d) r in
-      subst (Tells s.world last.world (c ∷ cs)) (sym e) (joined s.world last.world c cs printed rest k.acts k.may one (subst (λ w. Tells w last.world cs rest) k.leads t))
+      subst (Tells s.world last.world (c ∷ cs)) (sym e) (joined s.world last.world c cs printed rest d.deed.acts may one (subst (λ w. Tells w last.world cs rest) (does-world d) t))
 
 pub runs-receive_as_sent : RunsReceiveAsSent
 runs-receive_as_sent n commands out last f all run =

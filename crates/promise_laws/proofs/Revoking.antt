@@ -19,9 +19,13 @@ use Rattle.world_defs.specs.Step.{step, followed_by, steps, revoke_of, revoked, 
 use Rattle.world_laws.proofs.Lists.{at-set}
 use Rattle.act_defs.specs.Acts.{IsReached}
 use Rattle.table_laws.proofs.Dependencies.{tables-of_set}
-use Rattle.run_defs.specs.Outcome.{Outcome, is_done, revocations, revoke_done}
-use Rattle.run_defs.specs.Run.Does.{determined}
-use Rattle.promise_laws.specs.CableLines.{IsRevoked, RevokedLineIsTrue}
+use Rattle.run_defs.specs.declared.command.Command.TheVariants.{Revoke}
+use Rattle.run_defs.specs.Outcome.{Outcome, is_done, revocations, revoke_lines, happening, seen}
+use Rattle.run_defs.specs.Output.{Piece}
+use Rattle.run_defs.specs.Session.{SessionState}
+use Rattle.run_defs.proofs.Doing.{Doing, doing, acted-revocations}
+use Rattle.run_defs.proofs.Doing.Doing.{determined}
+use Rattle.promise_laws.specs.CableLines.{IsRevoked, IsRevokeTold, RevokedLineIsTrue}
 
 -- a table whose host has given up an epoch
 abbrev IsGiven : ℕ → TableState → Type 0
@@ -132,13 +136,16 @@ revoke-events n w r = record {
   none = λ e. still w (addresses w) e;
 }
 
-pub revoked_line-true : RevokedLineIsTrue
-revoked_line-true n s next out reached (determined e) =
-    let effects : List Effect × WorldState = steps s.world (revocations s.world) in
-    let count : ℕ = length (filter is_done effects.0) in
-    let o : Outcome = revoke_done s effects in
-    let same : o ≡ record { output = out; after = next } = same_Some o (record { output = out; after = next }) e in (
+revoked-so : (n : Network) (s next : SessionState) (out : List Piece) → IsReached n s.world → Doing s Revoke out next → IsRevokeTold s next out
+revoked-so n s next out reached (determined e) =
+    let count : ℕ = length (filter is_done (steps s.world (revocations s.world)).0) in
+    let o : Outcome = seen s (happening (revocations s.world) (revoke_lines s.world)) in
+    let same : o ≡ record { output = out; after = next } = same_Some o (record { output = out; after = next }) e in
+    let there : IsRevoked s.world o.after.world count = subst (λ v. IsRevoked s.world v count) (sym (acted-revocations s.world)) (revoke-events n s.world reached) in (
       count,
       sym (ap (λ (x : Outcome). x.output) same),
-      subst (λ (x : Outcome). IsRevoked s.world x.after.world count) same (revoke-events n s.world reached),
+      subst (λ (x : Outcome). IsRevoked s.world x.after.world count) same there,
     )
+
+pub revoked_line-true : RevokedLineIsTrue
+revoked_line-true n s next out reached d = revoked-so n s next out reached (doing d)

@@ -6,8 +6,8 @@ use Rattle.net_defs.specs.declared.vertex.Vertex.TheVariants.{Host}
 use Rattle.net_defs.specs.Network.{Network, has_vertex}
 use Rattle.net_defs.proofs.Distinct.{all-weaker}
 use Rattle.run_defs.specs.declared.command.Command.{Command}
-use Rattle.run_defs.specs.declared.command.Command.TheVariants.{Walk, Map, Circuit, Routes, Install, Begin, Close, Poll, Tokens, Provide, Send, Plan, Step, Settle, Finish, Duo, Pull, Plug, Revoke, Broken}
-use Rattle.run_defs.specs.declared.command.PlanKind.TheVariants.{Lose, Repeat, Hold, Flip, Pull as PullPlan}
+use Rattle.run_defs.specs.declared.command.Command.TheVariants.{Map, Circuit, Plan, Step}
+use Rattle.run_defs.specs.declared.command.PlanKind.TheVariants.{Flip}
 use Rattle.run_defs.specs.declared.command.StepLine.{StepLine}
 use Rattle.run_defs.specs.declared.command.StepLine.TheVariants.{Flip as FlipStep}
 use Rattle.run_defs.specs.Script.{script_reading}
@@ -23,30 +23,10 @@ host-below : (n : Network) (h : ℕ) → has_vertex n (Host h) ≡ true → h < 
 host-below n h there = grind (arith, nat_tests)
 
 pub said-command : (n : Network) (c : Command) → IsSaid n c → IsCommandOf n c
-said-command n (Walk h turns) is = tt
 said-command n (Map h depth tries) is = (host-below n h is.0, (let low = is.1.1 in omega (arith, low)))
 said-command n (Circuit h depth) is = host-below n h is.0
-said-command n Routes is = tt
-said-command n (Install tries) is = tt
-said-command n (Begin h port sends recvs) is = tt
-said-command n (Close h port) is = tt
-said-command n (Poll h port) is = tt
-said-command n (Tokens h port) is = tt
-said-command n (Provide h port size prio) is = tt
-said-command n (Send h port dest dport prio len seed) is = tt
-said-command n (Plan ahead Lose) is = tt
-said-command n (Plan ahead Repeat) is = tt
-said-command n (Plan ahead Hold) is = tt
 said-command n (Plan ahead (Flip bit pattern)) is = let low = is.1.1.1 in omega (arith, low)
-said-command n (Plan ahead (PullPlan at)) is = tt
-said-command n (Step line) is = tt
-said-command n Settle is = tt
-said-command n Finish is = tt
-said-command n (Duo e) is = tt
-said-command n (Pull at) is = tt
-said-command n (Plug a b) is = tt
-said-command n Revoke is = tt
-said-command n Broken is = tt
+said-command n _ is = tt
 
 said-all : (n : Network) (line : ℕ) (text : List ℕ) (commands : List Command) → script_reading n line text ≡ Ok commands → AllByRecursion (IsCommandOf n) commands
 said-all n line text commands said = all-weaker (IsSaid n) (IsCommandOf n) commands (said-command n) (reading_ranged n line text (Ok commands) said)

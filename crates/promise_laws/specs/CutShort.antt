@@ -1,4 +1,4 @@
--- A command is cut short where memory runs out: a prefix of the acts that it stands for leads to the world.
+-- A command is cut short where memory runs out: a prefix of the acts of its deed leads to the world.
 use Rattle.std.specs.Prelude.{◌≡◌, ◌⊎◌, ℕ, ◌≤◌, ℤ, List, map, length}
 use Rattle.std.specs.List.{AllByRecursion}
 use Rattle.net_defs.specs.Network.{Network, IsFabric}
@@ -14,10 +14,10 @@ use Rattle.run_defs.specs.declared.command.Command.{Command}
 use Rattle.run_defs.specs.declared.command.Command.TheVariants.{Map}
 use Rattle.run_defs.specs.Output.{Piece}
 use Rattle.run_defs.specs.Session.{SessionState}
-use Rattle.run_defs.specs.Run.{IsRun}
+use Rattle.run_defs.specs.Deed.{Deed}
+use Rattle.run_defs.specs.Run.{IsDeed, IsRun}
 use Rattle.mapping_laws.specs.Laws.{CanMap}
 use Rattle.run_laws.specs.Acts.{IsActOf}
-use Rattle.promise_laws.specs.CommandActs.{StandsFor}
 
 -- A prefix of these acts leads from one world to the other.
 pub record IsPartActed (w : WorldState) (acts : List Act) (v : WorldState) : Type 0 where
@@ -25,11 +25,11 @@ pub record IsPartActed (w : WorldState) (acts : List Act) (v : WorldState) : Typ
   pub front : IsPrefix done acts
   pub there : v ≡ acted_all w done
 
--- A command was cut short in a session: a prefix of the acts that it stands for there leads to this world.
-pub record IsCutShort (s : SessionState) (c : Command) (v : WorldState) : Type 0 where
-  pub acts : List Act
-  pub are : StandsFor s c acts
-  pub way : IsPartActed s.world acts v
+-- A command was cut short in a session: nothing of it was done, or a prefix of the acts of its deed, and this world is
+-- left.
+pub data IsCutShort (s : SessionState) (c : Command) (v : WorldState) : Type 0 where
+  undone : v ≡ s.world → IsCutShort s c v
+  part_done : (d : Deed) → IsDeed s c d → IsPartActed s.world d.acts v → IsCutShort s c v
 
 -- A map from a host, to a depth, with so many tries an ask, was begun over a world and stopped in another: between two
 -- asks of a journal that grows to its depth, or within the next one.

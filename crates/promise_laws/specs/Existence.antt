@@ -1,21 +1,21 @@
--- That commands over a fabric have a run, and one: after every run each command does something, and nothing else.
+-- That commands over a fabric have a run, and one: after every run each command is one deed.
 use Rattle.std.specs.Prelude.{◌≡◌, List}
 use Rattle.std.specs.List.{AllByRecursion}
 use Rattle.net_defs.specs.Network.{Network, IsFabric}
 use Rattle.run_defs.specs.declared.command.Command.{Command}
+use Rattle.run_defs.specs.Deed.{Deed}
 use Rattle.run_defs.specs.Output.{Piece}
 use Rattle.run_defs.specs.Session.{SessionState}
-use Rattle.run_defs.specs.Run.{Does, IsRun}
+use Rattle.run_defs.specs.Run.{IsDeed, IsRun}
 use Rattle.run_laws.specs.Acts.{IsActOf}
 
--- What a command prints in a session, and the session that it leaves: it does this and nothing else.
+-- What a command is in a session: this deed and no other.
 pub record HasDone (s : SessionState) (c : Command) : Type 0 where
-  pub out : List Piece
-  pub next : SessionState
-  pub does : Does s c out next
-  pub one : (other : List Piece) (end : SessionState) → Does s c other end → (other ≡ out) × (end ≡ next)
+  pub deed : Deed
+  pub is : IsDeed s c deed
+  pub one : (other : Deed) → IsDeed s c other → other ≡ deed
 
--- after every run each command does something
+-- after every run each command is one deed
 abbrev pub EachCommandIsDone : Type 0
 EachCommandIsDone =
     (n : Network) (commands : List Command) (out : List Piece) (s : SessionState) (c : Command)

@@ -1,18 +1,19 @@
-//! What each command of a run stands for: `specs/CommandActs.antt`, `specs/CutShort.antt` and `specs/OneAction.antt`
+//! What each command of a run does: `specs/CommandActs.antt`, `specs/CutShort.antt` and `specs/OneAction.antt`
 //! have the statements.
 
-ghost use Rattle.promise_laws.specs.CommandActs.{CommandsHaveSoundActs, RunsEndSound};
+ghost use Rattle.promise_laws.specs.CommandActs.{DeedsAreSingleActs, ActsReach, RunsEndSound};
 ghost use Rattle.promise_laws.specs.CutShort.{BegunMapsAreCutShort, CutCommandsLeaveSound};
 ghost use Rattle.promise_laws.specs.OneAction.{ActsAreOneAction};
 
-/// Each command that is done after a run stands for one list of acts: they may happen, they lead to the world after
-/// it, and after each prefix of them the world is sound. So the world after every run is sound.
+/// The acts of each command after a run may happen, and each is one action. Acts that may happen lead from a reached
+/// world to a reached one, so that after each prefix of them the world is sound, as it is after every run.
 pub fn acts_of_commands()
-    ensures acts { CommandsHaveSoundActs }
+    ensures acts { DeedsAreSingleActs }
+    ensures reach { ActsReach }
     ensures ended { RunsEndSound }
 {}
 
-/// A map that was begun and stopped is the command cut short: a prefix of the acts that it stands for was done. And a
+/// A map that was begun and stopped is the command cut short: a prefix of the acts of its deed was done. And a
 /// command that is cut short after a run leaves a sound world.
 pub fn acts_of_cut_commands()
     ensures begun { BegunMapsAreCutShort }

@@ -2,7 +2,7 @@
 
 ghost use Rattle.promise_laws.specs.Existence.{EachCommandIsDone, RunExists};
 
-/// After every run each command does something, and one thing; so commands over a fabric have a run, and one, whatever
+/// After every run each command is one deed; so commands over a fabric have a run, and one, whatever
 /// is planned.
 pub fn runs_exist()
     ensures done { EachCommandIsDone }

@@ -6,11 +6,11 @@
 //! | file of `specs/` | says |
 //! |---|---|
 //! | `CableLines` | what lines `pull`, `plug`, `revoked` say: which cables came and went, who gave up an epoch |
-//! | `CommandActs` | which acts a command stands for, and that after each prefix of them the world is sound |
+//! | `CommandActs` | that the acts of a command's deed may happen, each one action, and reach reached worlds |
 //! | `CutShort` | that a command is cut short, and a map that was begun |
 //! | `Duos` | what a command depends on, of the two hosts that restart, and what they come to in a run |
 //! | `OneAction` | whose an act is, and that it is one action, of one host, of one channel or of one cable |
-//! | `Existence` | each command does something after every run, and so there is a run |
+//! | `Existence` | each command is one deed after every run, and so there is a run |
 //! | `ReceivedLines` | what lines `received` show, against `send` lines with a token: once, in order, byte for byte |
 //! | `Promised` | every moment is sound, and every run keeps its promise |
 //! | `Scripts` | what every script promises that is read without a fault |

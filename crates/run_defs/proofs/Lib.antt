@@ -1,3 +1,5 @@
+pub mod ByKind
+pub mod Doing
 pub mod Mapping
 pub mod Moments
 pub mod Reports

@@ -20,7 +20,8 @@ use Rattle.run_defs.specs.Output.{OneLine, MapLines}
 use Rattle.run_defs.specs.Mapped.{IsMapped, IsCalled}
 use Rattle.run_defs.specs.Mapped.IsCalled.{too_many_nodes, too_shallow, doubted, right}
 use Rattle.run_defs.specs.Run.{IsRun, Does}
-use Rattle.run_defs.specs.Run.Does.{determined, maps}
+use Rattle.run_defs.proofs.Doing.{does}
+use Rattle.run_defs.proofs.Doing.Doing.{determined, maps}
 use Rattle.run_defs.specs.Run.Runs.{ended, goes_on}
 use Rattle.run_defs.specs.Session.{new_session}
 use Rattle.run_defs.specs.Headline.{HasPrinted, IsQuiet}
@@ -69,11 +70,11 @@ drops = refl
 
 first_does : Does (new_session two_hosts) (Map 0 4 1) (OneLine (MapLine 0 Complete 31 62) ∷ MapLines setup_map ∷ []) mapped_session
 unfolding begun closed provided_by sent_by polled_by hear log.drain log.clear log.round_pass log.round log.settle log.sends log.host_try log.loop_try log.ask log.part_try log.install to_send packet_for after_sending lost was_reset repeated held flipped replayed asked part_staged planned_strikes sent_out injected advanced expired gave_up applied
-first_does = maps mapped_world two_hosts_journal setup_map Complete refl two_hosts_mapped refl refl
+first_does = does (maps mapped_world two_hosts_journal setup_map Complete refl two_hosts_mapped refl refl)
 
 last_does : Does mapped_session Finish (OneLine (FinishLine 62 59) ∷ []) mapped_session
 unfolding begun closed provided_by sent_by polled_by hear log.drain log.clear log.round_pass log.round log.settle log.sends log.host_try log.loop_try log.ask log.part_try log.install to_send packet_for after_sending lost was_reset repeated held flipped replayed asked part_staged planned_strikes sent_out injected advanced expired gave_up applied
-last_does = determined refl
+last_does = does (determined refl)
 
 pub mapping_runs : IsRun two_hosts mapping mapping_output mapped_session
 mapping_runs = goes_on first_does (goes_on last_does ended refl) refl

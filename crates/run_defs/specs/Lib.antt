@@ -1,4 +1,5 @@
 pub mod Circuit
+pub mod Deed
 pub mod Duos
 pub mod Examples
 pub mod Headline

@@ -6,6 +6,7 @@ use Rattle.map_defs.specs.NetMap.{NetMap}
 use Rattle.map_defs.specs.Quotient.{IsQuotient}
 use Rattle.map_defs.specs.Core.{core_of}
 use Rattle.world_defs.specs.World.{WorldState}
+use Rattle.world_defs.specs.Log.{Log}
 use Rattle.world_defs.specs.Logs as log
 use Rattle.run_defs.specs.declared.line.MapWords.{MapWords}
 use Rattle.run_defs.specs.declared.line.MapWords.TheVariants.{Complete, Doubtful, IncompleteDepth, IncompleteNodes}
@@ -17,15 +18,17 @@ pub data IsCalled (host : ℕ) (j : List Entry) (drowned : ℕ) : MapWords → T
   doubted : ¬ IsEndedAtLimit j → IsClosed host j → 0 < drowned → IsCalled host j drowned (Doubtful drowned)
   right : ¬ IsEndedAtLimit j → IsClosed host j → drowned ≡ 0 → IsCalled host j drowned Complete
 
--- The asks of a journal that has grown from a host to a depth, with so many tries each, lead from one world to another;
--- their mapper is made in the first of the two. The map is the journal's quotient with its core marked, and these words
--- are what it is called.
+-- the asks of a journal from a host, with so many tries each; their mapper is made in the world before them
+abbrev pub asks_of : ℕ → ℕ → List Entry → WorldState → Log log.AskedAll
+asks_of host tries j w = log.asks w.links.cables.changes host tries (map (λ e. e.walk) j) w
+
+-- The asks of a journal that has grown from a host to a depth, with so many tries each, lead from one world to another.
+-- The map is the journal's quotient with its core marked, and these words are what it is called.
 pub record IsMapped (host depth tries : ℕ) (before after : WorldState) (j : List Entry) (m : NetMap)
     (words : MapWords) : Type 0 where
   pub drowned : ℕ
-  pub asked : (log.asks before.links.cables.changes host tries (map (λ e. e.walk) j) before).value
-      ≡ record { entries = j; drowned = drowned }
-  pub led : after ≡ (log.asks before.links.cables.changes host tries (map (λ e. e.walk) j) before).world
+  pub asked : (asks_of host tries j before).value ≡ record { entries = j; drowned = drowned }
+  pub led : after ≡ (asks_of host tries j before).world
   pub grown : IsGrown host depth j
   pub unmarked : NetMap
   pub quotient : IsQuotient host j unmarked

@@ -1,5 +1,5 @@
--- What each command does and prints, where that is determined: all commands but a map that is made, a map of circuit
--- links, and routes that are computed.
+-- What each command is, where that is determined: a deed, by the kind of the command. That leaves out a map that is
+-- made, a map of circuit links, and routes that are computed.
 use Rattle.std.specs.Prelude.{ℕ, Bool, true, false, not, ◌&&◌, nat_eq, nat_lt, List, [], ◌∷◌, ◌++◌, map, length, min}
 use Rattle.std.specs.Prelude.{if◌then◌else◌, Option, Some, None, option_map, is_some}
 use Rattle.std.specs.List.{range_with_len, filter}
@@ -13,6 +13,7 @@ use Rattle.cable_history.specs.Crossed.{leaving, life_tail}
 use Rattle.link_defs.specs.Links.{is_idle}
 use Rattle.gm_defs.specs.declared.token.TokenPlace.{TokenPlace}
 use Rattle.gm_defs.specs.Token.{PortState, place_of_send, place_of_recv}
+use Rattle.duo_defs.specs.declared.event.DuoEvent.{DuoEvent}
 use Rattle.duo_defs.specs.declared.effect.DuoEffect.{DuoEffect}
 use Rattle.duo_defs.specs.Duo.{DuoState}
 use Rattle.duo_defs.specs.Step.{step as duo_step}
@@ -36,6 +37,7 @@ use Rattle.world_defs.specs.World.{adoption_of, adopted_by, last_count, addresse
 use Rattle.world_defs.specs.Step.{step, steps}
 use Rattle.world_defs.specs.Traffic.{is_broken}
 use Rattle.world_defs.specs.Settle.{unacknowledged_in}
+use Rattle.act_defs.specs.Acts.{Happens, Plans, Adopts}
 use Rattle.world_defs.specs.Log.{Log}
 use Rattle.world_defs.specs.Logs as log
 use Rattle.run_defs.specs.declared.command.Command.{Command}
@@ -80,31 +82,15 @@ use Rattle.run_defs.specs.declared.line.StepWords.TheVariants.{Flipped as Flippe
 use Rattle.run_defs.specs.declared.line.StepWords.TheVariants.{GaveUp as GaveUpWords, Repeated as RepeatedWords}
 use Rattle.run_defs.specs.declared.line.StepWords.TheVariants.{Held as HeldWords, Replayed as ReplayedWords}
 use Rattle.run_defs.specs.declared.line.PlaceEntry.{PlaceEntry}
+use Rattle.run_defs.specs.Deed.{Deed, Nothing, KeepsDuo, says, session_after}
 use Rattle.run_defs.specs.Output.{Piece, lines}
 use Rattle.run_defs.specs.Session.{SessionState, LastMap, LastRoutes, complete_map}
 use Rattle.run_defs.specs.Duos.{begun}
-
--- What a command prints, and the session after it.
-pub record Outcome : Type 0 where
-  pub output : List Piece
-  pub after : SessionState
-
--- lines, and the session with this world
-abbrev pub says : SessionState → List Line → WorldState → Outcome
-says s ls w = record { output = lines ls; after = record s { world = w } }
-
--- lines alone: the session is as before
-abbrev pub says_only : SessionState → List Line → Outcome
-says_only s ls = record { output = lines ls; after = s }
 
 -- a client's call: what it said
 abbrev pub client_lines : ClientCall → ℕ → ℕ → Effect → List Line
 client_lines call host port (SaidSo said) = Client call host port said ∷ []
 client_lines call host port _ = []
-
--- a client's call prints what it said, and leaves the session with its world
-abbrev pub called : SessionState → ClientCall → ℕ → ℕ → Effect × WorldState → Outcome
-called s call host port (effect, w) = says s (client_lines call host port effect) w
 
 -- the end that a channel leaves
 abbrev pub tail_of : Option End → End
@@ -151,15 +137,6 @@ event_of w (FlipLine e bit pattern) = on_channel w e (λ c. Flip c bit pattern)
 event_of w (ExpireLine h peer) = Some (Expire h peer)
 event_of w (ReplayLine serial) = Some (Replay serial)
 
--- an event prints what it did, and leaves the session with its world
-abbrev pub stepped : SessionState → Effect × WorldState → Outcome
-stepped s (effect, w) = says s (StepOutput (words_of w effect) ∷ []) w
-
--- a step without a channel is no event
-abbrev pub step_or_idle : SessionState → Option Event → Outcome
-step_or_idle s None = says_only s (StepOutput IdleWords ∷ [])
-step_or_idle s (Some event) = stepped s (step s.world event)
-
 -- the fault that a line of a plan means
 abbrev pub fault_of : PlanKind → Fault
 fault_of PlanLose = LoseFault
@@ -167,10 +144,6 @@ fault_of PlanRepeat = RepeatFault
 fault_of PlanHold = HoldFault
 fault_of (PlanFlip bit pattern) = FlipFault bit pattern
 fault_of (PlanPull at) = PullFault at
-
--- a plan prints the number of the injection that it is for
-abbrev pub plan_made : SessionState → ℕ × WorldState → Outcome
-plan_made s (number, w) = says s (PlanAt number ∷ []) w
 
 -- the places of so many tokens, by number
 abbrev pub places : ℕ → (ℕ → Option TokenPlace) → List PlaceEntry
@@ -184,29 +157,24 @@ token_lines host port (Some p) = TokensLine host port (places p.sends (place_of_
 
 -- a settle prints its rounds, its resets and what isn't acknowledged after it; a count of resets stays at its last
 -- value
-abbrev pub settled : SessionState → Log log.Rounds → Outcome
-settled s l =
-    says s (SettleLine l.value.rounds (min l.value.resets last_count) (unacknowledged_in l.world) ∷ []) l.world
+abbrev pub settle_lines : Log log.Rounds → List Line
+settle_lines l = SettleLine l.value.rounds (min l.value.resets last_count) (unacknowledged_in l.world) ∷ []
 
 -- a host's table is active
 abbrev pub table_line : WorldState → ℕ → Line
 table_line w h = Table h (is_some (active_epoch (node_at w h).table))
 
 -- an installation prints how many hosts have all parts acknowledged, of how many, and then each host's table
-abbrev pub install_done : SessionState → List ℕ → Log ℕ → Outcome
-install_done s hosts l = says s (Installed l.value (length hosts) ∷ map (table_line l.world) hosts) l.world
+abbrev pub install_lines : List ℕ → Log ℕ → List Line
+install_lines hosts l = Installed l.value (length hosts) ∷ map (table_line l.world) hosts
 
 -- the last routes as the set that their mapper adopts in a world
 abbrev pub set_of : WorldState → LastRoutes → Adoption
 set_of w l = adoption_of w l.mapper l.routes
 
 -- the last routes are adopted, and then installed on the hosts of their map
-abbrev pub installation : SessionState → LastRoutes → ℕ → Log ℕ
-installation s l tries = log.install (set_of s.world l) l.hosts tries (adopted_by s.world l.mapper l.routes)
-
--- and what came of it is printed
-abbrev pub install_now : SessionState → LastRoutes → ℕ → Outcome
-install_now s l tries = install_done s l.hosts (installation s l tries)
+abbrev pub installation : WorldState → LastRoutes → ℕ → Log ℕ
+installation w l tries = log.install (set_of w l) l.hosts tries (adopted_by w l.mapper l.routes)
 
 -- why routes may not be adopted: a host hasn't given up the epoch of others, or there is no next one
 abbrev pub adopt_cause : WorldState → InstallCause
@@ -220,35 +188,10 @@ may_install w l = nat_eq l.began w.links.cables.changes && may_adopt w l.routes
 abbrev pub refusal_cause : WorldState → LastRoutes → InstallCause
 refusal_cause w l = if nat_eq l.began w.links.cables.changes then adopt_cause w else Changed
 
--- routes are installed where some were computed, the links are idle, and they may be installed
-abbrev pub install : SessionState → ℕ → Option LastRoutes → Outcome
-install s tries None = says_only s (InstallRefused NoRoutes ∷ [])
-install s tries (Some l) =
-    if not (is_idle s.world.links) then says_only s (InstallRefused Busy ∷ [])
-    else if not (may_install s.world l) then says_only s (InstallRefused (refusal_cause s.world l) ∷ [])
-    else install_now s l tries
-
--- a map is refused where a channel holds a packet; else its outcome isn't determined here
-abbrev pub map_refused : SessionState → ℕ → Option Outcome
-map_refused s host = if is_idle s.world.links then None else Some (says_only s (MapBusy host ∷ []))
-
--- routes are refused where the last map isn't complete
-abbrev pub routes_refused : SessionState → Option LastMap → Option Outcome
-routes_refused s (Some l) = None
-routes_refused s None = Some (says_only s (NoMap ∷ []))
-
--- an event of the two hosts that restart prints what it did, and leaves the session with them
-abbrev pub duo_done : SessionState → DuoEffect × DuoState → Outcome
-duo_done s (effect, d) = record { output = lines (DuoLine effect ∷ []); after = record s { duo = Some d } }
-
 -- an event of a cable, or of a host that gives up its epoch, was possible
 abbrev pub is_done : Effect → Bool
 is_done (SaidSo Done) = true
 is_done _ = false
-
--- a pull prints whether the port had a cable
-abbrev pub pull_done : SessionState → End → Effect × WorldState → Outcome
-pull_done s at (effect, w) = says s (PullLine at (is_done effect) ∷ []) w
 
 -- two ports are joined unless the fabric as it stands doesn't take a cable there, or all cables were named
 abbrev pub words_of_plug : WorldState → End → End → PlugWords
@@ -257,17 +200,13 @@ words_of_plug w a b =
     else if nat_lt (length w.links.cables.wires) cable_limit then Joined
     else Full
 
--- a plug prints that the ports were joined, or why they weren't
-abbrev pub plug_done : SessionState → End → End → Effect × WorldState → Outcome
-plug_done s a b (effect, w) = says s (PlugLine a b (words_of_plug s.world a b) ∷ []) w
-
 -- each host gives up the epoch of the adopted routes, by rising address
 abbrev pub revocations : WorldState → List Event
 revocations w = map Revoke (addresses w)
 
 -- that prints how many did
-abbrev pub revoke_done : SessionState → List Effect × WorldState → Outcome
-revoke_done s (effects, w) = says s (Revoked (length (filter is_done effects)) ∷ []) w
+abbrev pub revoke_lines : WorldState → List Line
+revoke_lines w = Revoked (length (filter is_done (steps w (revocations w)).0)) ∷ []
 
 -- the adopted routes that cross a cable pulled since the adoption, in their order
 abbrev pub broken_routes : WorldState → Adoption → List Route
@@ -278,28 +217,119 @@ abbrev pub broken_lines : WorldState → Option Adoption → List Line
 broken_lines w None = NoBroken ∷ []
 broken_lines w (Some a) = map (λ r. BrokenLine r.from r.to) (broken_routes w a) ++ EndBroken ∷ []
 
--- What a command prints, and the session after it, where its session determines them. That leaves out a map that is
--- made, the map of circuit links, and routes that are computed.
+-- What kind a command is of. Most are told by the lines that they print: of the world, where they only read it; or of one
+-- event at most, by the world before it, its effect and the world after it.
+pub data Kind : Type 0 where
+  Reading : (WorldState → List Line) → Kind
+  OneEvent : (WorldState → Option Event) → (WorldState → Effect → WorldState → List Line) → Kind
+  Planning : ℕ → Fault → Kind
+  Settling : Kind
+  Revoking : Kind
+  Installing : ℕ → Kind
+  Mapping : ℕ → Kind
+  MappingCircuits : Kind
+  Routing : Kind
+  OfTheDuo : DuoEvent → Kind
+
+-- a client's call is one event, and prints what it said
+abbrev pub calling : ClientCall → ℕ → ℕ → Event → Kind
+calling call host port event = OneEvent (λ w. Some event) (λ w effect v. client_lines call host port effect)
+
+-- the kind of each command
+abbrev pub kind_of : Command → Kind
+kind_of (Walk host walk) = Reading (λ w. WalkLine (place (fabric_of w) host walk) ∷ [])
+kind_of (Map host depth tries) = Mapping host
+kind_of (Circuit host depth) = MappingCircuits
+kind_of Routes = Routing
+kind_of (Install tries) = Installing tries
+kind_of (BeginCommand h port sends recvs) = calling BeginCall h port (Begin h port sends recvs)
+kind_of (CloseCommand h port) = calling CloseCall h port (Close h port)
+kind_of (PollCommand h port) = calling PollCall h port (Poll h port)
+kind_of (Tokens h port) = Reading (λ w. token_lines h port (port_at (node_at w h) port))
+kind_of (ProvideCommand h port size prio) = calling ProvideCall h port (Provide h port size prio)
+kind_of (SendCommand h port dest dport prio len seed) = calling SendCall h port (Send h port dest dport prio len seed)
+kind_of (Plan ahead kind) = Planning ahead (fault_of kind)
+kind_of (Step line) = OneEvent (λ w. event_of w line) (λ w effect v. StepOutput (words_of v effect) ∷ [])
+kind_of Settle = Settling
+kind_of Finish = Reading (λ w. FinishLine w.injected w.dropped ∷ [])
+kind_of (Duo e) = OfTheDuo e
+kind_of (PullCommand at) = OneEvent (λ w. Some (Pull at)) (λ w effect v. PullLine at (is_done effect) ∷ [])
+kind_of (PlugCommand a b) = OneEvent (λ w. Some (Plug a b)) (λ w effect v. PlugLine a b (words_of_plug w a b) ∷ [])
+kind_of RevokeCommand = Revoking
+kind_of Broken = Reading (λ w. broken_lines w w.adopted)
+
+-- events in a row, and what is printed of them
+abbrev pub happening : List Event → List Line → Deed
+happening events ls = record { acts = map Happens events; output = lines ls; note = Nothing }
+
+-- an event, where there is one; else nothing happens, as if it had been idle
+abbrev pub one_event : WorldState → (Effect → WorldState → List Line) → Option Event → Deed
+one_event w print None = says (print Idle w)
+one_event w print (Some event) = happening (event ∷ []) (print (step w event).0 (step w event).1)
+
+-- a plan prints the number of the injection that it is for
+abbrev pub planning : WorldState → ℕ → Fault → Deed
+planning w ahead fault = record {
+  acts = Plans ahead fault ∷ [];
+  output = lines (PlanAt (planned w ahead fault).0 ∷ []);
+  note = Nothing;
+}
+
+-- the last routes are adopted and installed, and what came of it is printed
+abbrev pub install_now : WorldState → LastRoutes → ℕ → Deed
+install_now w l tries = record {
+  acts = Adopts l.mapper l.routes ∷ map Happens (installation w l tries).events;
+  output = lines (install_lines l.hosts (installation w l tries));
+  note = Nothing;
+}
+
+-- routes are installed where some were computed, the links are idle, and they may be installed
+abbrev pub install : WorldState → ℕ → Option LastRoutes → Deed
+install w tries None = says (InstallRefused NoRoutes ∷ [])
+install w tries (Some l) =
+    if not (is_idle w.links) then says (InstallRefused Busy ∷ [])
+    else if not (may_install w l) then says (InstallRefused (refusal_cause w l) ∷ [])
+    else install_now w l tries
+
+-- a map is refused where a channel holds a packet; else its deed isn't determined here
+abbrev pub map_refused : WorldState → ℕ → Option Deed
+map_refused w host = if is_idle w.links then None else Some (says (MapBusy host ∷ []))
+
+-- routes are refused where the last map isn't complete
+abbrev pub routes_refused : Option LastMap → Option Deed
+routes_refused (Some l) = None
+routes_refused None = Some (says (NoMap ∷ []))
+
+-- an event of the two hosts that restart prints what it did, and leaves the session with them
+abbrev pub duo_done : DuoEffect × DuoState → Deed
+duo_done (effect, d) = record { acts = []; output = lines (DuoLine effect ∷ []); note = KeepsDuo d }
+
+-- What a command of each kind is in a session, where that is determined.
+abbrev pub deed_of_kind : SessionState → Kind → Option Deed
+deed_of_kind s (Reading print) = Some (says (print s.world))
+deed_of_kind s (OneEvent event print) = Some (one_event s.world (print s.world) (event s.world))
+deed_of_kind s (Planning ahead fault) = Some (planning s.world ahead fault)
+deed_of_kind s Settling = Some (happening (log.settle s.world).events (settle_lines (log.settle s.world)))
+deed_of_kind s Revoking = Some (happening (revocations s.world) (revoke_lines s.world))
+deed_of_kind s (Installing tries) = Some (install s.world tries s.last_routes)
+deed_of_kind s (Mapping host) = map_refused s.world host
+deed_of_kind s MappingCircuits = None
+deed_of_kind s Routing = routes_refused (complete_map s.last_map)
+deed_of_kind s (OfTheDuo e) = Some (duo_done (duo_step (begun s.duo) e))
+
+-- the deed of a command, where its session determines it
+abbrev pub deed_of : SessionState → Command → Option Deed
+deed_of s c = deed_of_kind s (kind_of c)
+
+-- What a command prints, and the session after it.
+pub record Outcome : Type 0 where
+  pub output : List Piece
+  pub after : SessionState
+
+-- what is seen of a deed
+abbrev pub seen : SessionState → Deed → Outcome
+seen s d = record { output = d.output; after = session_after s d }
+
+-- what a command prints, and the session after it, where its session determines its deed
 abbrev pub outcome : SessionState → Command → Option Outcome
-outcome s (Walk host walk) = Some (says_only s (WalkLine (place (fabric_of s.world) host walk) ∷ []))
-outcome s (Map host depth tries) = map_refused s host
-outcome s (Circuit host depth) = None
-outcome s Routes = routes_refused s (complete_map s.last_map)
-outcome s (Install tries) = Some (install s tries s.last_routes)
-outcome s (BeginCommand h port sends recvs) = Some (called s BeginCall h port (step s.world (Begin h port sends recvs)))
-outcome s (CloseCommand h port) = Some (called s CloseCall h port (step s.world (Close h port)))
-outcome s (PollCommand h port) = Some (called s PollCall h port (step s.world (Poll h port)))
-outcome s (Tokens h port) = Some (says_only s (token_lines h port (port_at (node_at s.world h) port)))
-outcome s (ProvideCommand h port size prio) =
-    Some (called s ProvideCall h port (step s.world (Provide h port size prio)))
-outcome s (SendCommand h port dest dport prio len seed) =
-    Some (called s SendCall h port (step s.world (Send h port dest dport prio len seed)))
-outcome s (Plan ahead kind) = Some (plan_made s (planned s.world ahead (fault_of kind)))
-outcome s (Step line) = Some (step_or_idle s (event_of s.world line))
-outcome s Settle = Some (settled s (log.settle s.world))
-outcome s Finish = Some (says_only s (FinishLine s.world.injected s.world.dropped ∷ []))
-outcome s (Duo e) = Some (duo_done s (duo_step (begun s.duo) e))
-outcome s (PullCommand at) = Some (pull_done s at (step s.world (Pull at)))
-outcome s (PlugCommand a b) = Some (plug_done s a b (step s.world (Plug a b)))
-outcome s RevokeCommand = Some (revoke_done s (steps s.world (revocations s.world)))
-outcome s Broken = Some (says_only s (broken_lines s.world s.world.adopted))
+outcome s c = option_map (seen s) (deed_of s c)

@@ -1,8 +1,9 @@
 -- What commands do, one after another, from the first world of a fabric on.
-use Rattle.std.specs.Prelude.{◌≡◌, ℕ, ◌-◌, List, [], ◌∷◌, ◌++◌, map, length, nat_eq, slice_get, Option, Some, None}
+use Rattle.std.specs.Prelude.{◌≡◌, ℕ, ◌-◌, true, List, [], ◌∷◌, ◌++◌, map, length, nat_eq, slice_get, Option, Some, None}
 use Rattle.std.specs.List.{filter, list_any}
 use Rattle.net_defs.specs.declared.route.Route.{Route}
 use Rattle.net_defs.specs.Network.{Network}
+use Rattle.link_defs.specs.Links.{is_idle}
 use Rattle.journal_defs.specs.declared.entry.Entry.{Entry}
 use Rattle.map_defs.specs.declared.vertex.MapVertex.{MapVertex}
 use Rattle.map_defs.specs.declared.vertex.MapVertex.TheVariants.{Switch}
@@ -12,6 +13,7 @@ use Rattle.map_defs.specs.Orientation.{order_of}
 use Rattle.map_defs.specs.Routing.{AreRoutesOf}
 use Rattle.map_defs.specs.Ranks.{ranks_of}
 use Rattle.world_defs.specs.World.{WorldState, fabric_of, addresses}
+use Rattle.act_defs.specs.Acts.{Happens}
 use Rattle.run_defs.specs.declared.command.Command.{Command}
 use Rattle.run_defs.specs.declared.command.Command.TheVariants.{Map, Circuit, Routes}
 use Rattle.run_defs.specs.declared.line.MapWords.{MapWords}
@@ -19,11 +21,12 @@ use Rattle.run_defs.specs.declared.line.MapWords.TheVariants.{Complete, Doubtful
 use Rattle.run_defs.specs.declared.line.Line.{Line}
 use Rattle.run_defs.specs.declared.line.Line.TheVariants.{Map as MapLine, Routes as RoutesLine, Route as RouteLine}
 use Rattle.run_defs.specs.declared.line.Line.TheVariants.{Rank as RankLine, EndRoutes}
-use Rattle.run_defs.specs.Mapped.{IsMapped}
+use Rattle.run_defs.specs.Mapped.{IsMapped, asks_of}
 use Rattle.run_defs.specs.Circuit.{IsCircuitTold}
 use Rattle.run_defs.specs.Output.{Piece, OneLine, MapLines, lines}
 use Rattle.run_defs.specs.Session.{SessionState, LastMap, new_session, complete_map}
-use Rattle.run_defs.specs.Outcome.{outcome}
+use Rattle.run_defs.specs.Deed.{Deed, Nothing, KeepsMap, KeepsRoutes, session_after}
+use Rattle.run_defs.specs.Outcome.{deed_of}
 
 -- the lines of a map follow its words, unless the tree had too many nodes
 abbrev pub map_pieces : MapWords → NetMap → List Piece
@@ -54,33 +57,40 @@ abbrev pub routes_lines : NetMap → List Route → List Line
 routes_lines m routes = RoutesLine (length routes) ∷ map route_line routes
     ++ map (rank_line m) (ranks_of m (order_of m)) ++ EndRoutes ∷ []
 
--- What a command does: it prints pieces, and leaves a session.
-pub data Does (s : SessionState) : Command → List Piece → SessionState → Type 0 where
-  determined : {c : Command} {out : List Piece} {next : SessionState}
-      → outcome s c ≡ Some (record { output = out; after = next }) → Does s c out next
-  maps : {host depth tries : ℕ} {out : List Piece} {next : SessionState}
-      → (after : WorldState) (j : List Entry) (m : NetMap) (words : MapWords)
-      → outcome s (Map host depth tries) ≡ None → IsMapped host depth tries s.world after j m words
-      → out ≡ OneLine (MapLine host words (length j) (after.injected - s.world.injected)) ∷ map_pieces words m
-      → next ≡ record s {
-        world = after;
-        last_map = Some (record { mapper = host; words = words; made = m; began = s.world.links.cables.changes });
+-- What a command is in a session: a deed. A map that is made has a journal, which the log of its asks answers, and takes
+-- its acts from that log.
+pub data IsDeed (s : SessionState) : Command → Deed → Type 0 where
+  determined : {c : Command} {d : Deed} → deed_of s c ≡ Some d → IsDeed s c d
+  maps : {host depth tries : ℕ} {d : Deed} → (after : WorldState) (j : List Entry) (m : NetMap) (words : MapWords)
+      → is_idle s.world.links ≡ true → IsMapped host depth tries s.world after j m words
+      → d ≡ record {
+        acts = map Happens (asks_of host tries j s.world).events;
+        output = OneLine (MapLine host words (length j) (after.injected - s.world.injected)) ∷ map_pieces words m;
+        note = KeepsMap (record { mapper = host; words = words; made = m; began = s.world.links.cables.changes });
       }
-      → Does s (Map host depth tries) out next
-  circuits : {host depth : ℕ} {out : List Piece} {next : SessionState}
-      → IsCircuitTold (fabric_of s.world) host depth out → next ≡ s → Does s (Circuit host depth) out next
-  routes : {out : List Piece} {next : SessionState} → (l : LastMap) (found : List Route)
+      → IsDeed s (Map host depth tries) d
+  circuits : {host depth : ℕ} {d : Deed} → (out : List Piece) → IsCircuitTold (fabric_of s.world) host depth out
+      → d ≡ record { acts = []; output = out; note = Nothing } → IsDeed s (Circuit host depth) d
+  routes : {d : Deed} → (l : LastMap) (found : List Route)
       → complete_map s.last_map ≡ Some l → AreRoutesOf l.made (order_of l.made) found
-      → out ≡ lines (routes_lines l.made found)
-      → next ≡ record s {
-        last_routes = Some (record {
+      → d ≡ record {
+        acts = [];
+        output = lines (routes_lines l.made found);
+        note = KeepsRoutes (record {
           mapper = l.mapper;
           hosts = hosts_by_address s.world l.made;
           routes = found;
           began = l.began;
         });
       }
-      → Does s Routes out next
+      → IsDeed s Routes d
+
+-- What a command does: its deed prints pieces, and leaves a session.
+pub record Does (s : SessionState) (c : Command) (out : List Piece) (next : SessionState) : Type 0 where
+  pub deed : Deed
+  pub is : IsDeed s c deed
+  pub prints : out ≡ deed.output
+  pub leaves : next ≡ session_after s deed
 
 -- Commands in order do what each does in the session that the ones before it left.
 pub data Runs : SessionState → List Command → List Piece → SessionState → Type 0 where

@@ -15,8 +15,9 @@ use Rattle.run_defs.specs.Output.{Piece, OneLine, MapLines}
 use Rattle.run_defs.specs.Session.{SessionState, new_session}
 use Rattle.run_defs.specs.Outcome.{Outcome, outcome}
 use Rattle.run_defs.specs.Mapped.{IsMapped}
-use Rattle.run_defs.specs.Run.{Does, Runs, map_pieces}
-use Rattle.run_defs.specs.Run.Does.{determined, maps}
+use Rattle.run_defs.specs.Run.{Runs, map_pieces}
+use Rattle.run_defs.proofs.Doing.{Doing, doing}
+use Rattle.run_defs.proofs.Doing.Doing.{determined, maps}
 use Rattle.run_defs.specs.Run.Runs.{ended, goes_on}
 use Rattle.run_defs.specs.Headline.{HasPrinted, WasTrue}
 use Rattle.run_defs.specs.Examples.{setup_map}
@@ -35,23 +36,23 @@ record IsMapStep (s : SessionState) (host depth tries : ℕ) (out : List Piece) 
 not-both : (o : Option Outcome) (x : Outcome) → o ≡ None → o ≡ Some x → ⊥
 not-both o x e f = cc
 
-map-does : {s next : SessionState} {out : List Piece} {host depth tries : ℕ} → Does s (Map host depth tries) out next → outcome s (Map host depth tries) ≡ None → IsMapStep s host depth tries out
-map-does {s = s} {next = next} {out = out} (determined e) none = absurd (not-both _ (record { output = out; after = next }) none e)
-map-does (maps after j m words e is printed left) none = record { after = after; j = j; m = m; words = words; is = is; printed = printed }
+map-so : {s next : SessionState} {out : List Piece} {host depth tries : ℕ} → Doing s (Map host depth tries) out next → outcome s (Map host depth tries) ≡ None → IsMapStep s host depth tries out
+map-so {s = s} {next = next} {out = out} (determined e) none = absurd (not-both _ (record { output = out; after = next }) none e)
+map-so (maps after j m words e is printed left) none = record { after = after; j = j; m = m; words = words; is = is; printed = printed }
 
 -- the end prints one line, and nothing follows it
 same-output : (x y : Outcome) → Some x ≡ Some y → x.output ≡ y.output
 same-output x y e = let one : x ≡ y = cc in ap (λ (z : Outcome). z.output) one
 
-end-does : {s next : SessionState} {out : List Piece} → Does s Finish out next → out ≡ OneLine (FinishLine s.world.injected s.world.dropped) ∷ []
-end-does (determined e) = sym (same-output _ _ e)
+end-so : {s next : SessionState} {out : List Piece} → Doing s Finish out next → out ≡ OneLine (FinishLine s.world.injected s.world.dropped) ∷ []
+end-so (determined e) = sym (same-output _ _ e)
 
 nothing-runs : {s last : SessionState} {out : List Piece} → Runs s [] out last → out ≡ []
 nothing-runs ended = refl
 
 end-runs : {s last : SessionState} {out : List Piece} → Runs s (Finish ∷ []) out last → (injected : ℕ) × (dropped : ℕ) × (out ≡ OneLine (FinishLine injected dropped) ∷ [])
 end-runs {s = s} (goes_on {out = line} {rest = rest} d r e) =
-    (s.world.injected, s.world.dropped, e ∙ ap (λ l. l ++ rest) (end-does d) ∙ ap (λ l. OneLine (FinishLine s.world.injected s.world.dropped) ∷ l) (nothing-runs r))
+    (s.world.injected, s.world.dropped, e ∙ ap (λ l. l ++ rest) (end-so (doing d)) ∙ ap (λ l. OneLine (FinishLine s.world.injected s.world.dropped) ∷ l) (nothing-runs r))
 
 -- a map among three pieces is the one map
 heads : (x y : Piece) (xs ys : List Piece) → x ∷ xs ≡ y ∷ ys → x ≡ y
@@ -87,7 +88,7 @@ right = law.right
 run-right : (depth : ℕ) (out : List Piece) (last : SessionState) (mapper : ℕ) (m : NetMap) → 2 ≤ depth → Runs (new_session two_hosts) (Map 0 depth 1 ∷ Finish ∷ []) out last → (p : HasPrinted out mapper m)
     → WasTrue two_hosts (Map 0 depth 1 ∷ Finish ∷ []) p.before mapper m
 run-right depth out last mapper m deep (goes_on {next = next} {out = piece} {rest = rest} d r e) p =
-    let s = map-does d refl in
+    let s = map-so (doing d) refl in
     let four = mapping_is_complete depth s.after s.j s.m s.words deep s.is in
     let end = end-runs r in
     let asks : ℕ = length s.j in

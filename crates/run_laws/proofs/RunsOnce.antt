@@ -1,94 +1,89 @@
 -- What a command does is one, and so is a run; what its first commands print is the beginning of what it prints.
-use Rattle.std.proofs.Common.{◌≡◌, ℕ, zero, suc, List, [], ◌∷◌, ◌++◌, length, take, drop, Option, Some, None, refl, sym, ap, ◌∙◌, subst, append_assoc}
+use Rattle.std.proofs.Common.{◌≡◌, ℕ, zero, suc, true, List, [], ◌∷◌, ◌++◌, map, length, take, drop, Option, Some, None, refl, sym, ap, ◌∙◌, subst, append_assoc, if◌then◌else◌}
 use Rattle.std.specs.Prelude.{◌-◌}
 use Rattle.std.proofs.lemmas.List.Concat.{flat_map-append}
 use Rattle.net_defs.specs.declared.route.Route.{Route}
+use Rattle.link_defs.specs.Links.{is_idle}
 use Rattle.journal_defs.specs.declared.entry.Entry.{Entry}
 use Rattle.map_defs.specs.NetMap.{NetMap}
 use Rattle.map_defs.specs.Orientation.{order_of}
 use Rattle.map_defs.specs.Routing.{AreRoutesOf}
 use Rattle.world_defs.specs.World.{WorldState, fabric_of}
+use Rattle.act_defs.specs.Acts.{Happens}
 use Rattle.run_defs.specs.declared.command.Command.{Command}
-use Rattle.run_defs.specs.declared.command.Command.TheVariants.{Routes}
-use Rattle.run_defs.specs.declared.line.Line.TheVariants.{Map as MapLine}
+use Rattle.run_defs.specs.declared.command.Command.TheVariants.{Map, Routes}
+use Rattle.run_defs.specs.declared.line.Line.TheVariants.{Map as MapLine, MapBusy}
 use Rattle.run_defs.specs.declared.line.MapWords.{MapWords}
 use Rattle.run_defs.specs.LineText.{piece_text}
 use Rattle.run_defs.specs.Output.{Piece, OneLine, lines}
 use Rattle.run_defs.specs.Session.{SessionState, LastMap, complete_map}
-use Rattle.run_defs.specs.Outcome.{Outcome, routes_refused, outcome}
-use Rattle.run_defs.specs.Mapped.{IsMapped}
-use Rattle.run_defs.specs.Run.{Does, Runs, map_pieces, routes_lines, hosts_by_address}
-use Rattle.run_defs.specs.Run.Does.{determined, maps, circuits, routes}
+use Rattle.run_defs.specs.Deed.{Deed, Nothing, KeepsMap, KeepsRoutes, says, session_after}
+use Rattle.run_defs.specs.Outcome.{routes_refused, deed_of}
+use Rattle.run_defs.specs.Mapped.{asks_of}
+use Rattle.run_defs.specs.Run.{IsDeed, Does, Runs, map_pieces, routes_lines, hosts_by_address}
+use Rattle.run_defs.specs.Run.IsDeed.{determined, maps, circuits, routes}
 use Rattle.run_defs.specs.Run.Runs.{ended, goes_on}
 use Rattle.run_laws.specs.Runs.{DoingIsOne, RunsAreOne, RunsJoin, IsSplit, RunsSplit, FirstRunsArePart, TextOfBoth}
 use Rattle.run_laws.proofs.OneCircuit.{told-one}
 use Rattle.run_laws.proofs.OneMapping.{mapping_is_one}
 use Rattle.run_laws.proofs.OneRoutes.{routes_are_one}
 
--- an outcome excludes that there is none
-some-none : (o : Option Outcome) (x : Outcome) → o ≡ Some x → o ≡ None → ⊥
+some-none : (o : Option Deed) (x : Deed) → o ≡ Some x → o ≡ None → ⊥
 some-none o x e f = cc
 
-some-outcome : (x y : Outcome) → Some x ≡ Some y → x ≡ y
-some-outcome x y e = cc
+some-deed : (x y : Deed) → Some x ≡ Some y → x ≡ y
+some-deed x y e = cc
 
 some-map : (l k : LastMap) → Some l ≡ Some k → l ≡ k
 some-map l k e = cc
 
--- routes aren't refused where the last map is complete
-not-refused : (s : SessionState) (l : LastMap) → complete_map s.last_map ≡ Some l → outcome s Routes ≡ None
-not-refused s l e = ap (routes_refused s) e
+-- a map isn't refused where the links are idle, nor routes where the last map is complete
+not-busy : (s : SessionState) (host depth tries : ℕ) → is_idle s.world.links ≡ true → deed_of s (Map host depth tries) ≡ None
+not-busy s host depth tries e = ap (λ b. if b then None else Some (says (MapBusy host ∷ []))) e
 
--- what a map prints, and the session that it leaves
-abbrev map_printed : ℕ → WorldState → WorldState → List Entry → NetMap → MapWords → List Piece
-map_printed host before after j m words = OneLine (MapLine host words (length j) (after.injected - before.injected)) ∷ map_pieces words m
+not-refused : (s : SessionState) (l : LastMap) → complete_map s.last_map ≡ Some l → deed_of s Routes ≡ None
+not-refused s l e = ap routes_refused e
 
-abbrev map_left : SessionState → ℕ → WorldState → NetMap → MapWords → SessionState
-map_left s host after m words = record s { world = after; last_map = Some (record { mapper = host; words = words; made = m; began = s.world.links.cables.changes }) }
+-- the deeds of a map, of a map of circuit links, and of routes
+abbrev map_deed : SessionState → ℕ → ℕ → WorldState → List Entry → NetMap → MapWords → Deed
+map_deed s host tries after j m words = record {
+  acts = map Happens (asks_of host tries j s.world).events;
+  output = OneLine (MapLine host words (length j) (after.injected - s.world.injected)) ∷ map_pieces words m;
+  note = KeepsMap (record { mapper = host; words = words; made = m; began = s.world.links.cables.changes });
+}
 
--- the session that routes leave
-abbrev routes_left : SessionState → LastMap → List Route → SessionState
-routes_left s l found = record s { last_routes = Some (record { mapper = l.mapper; hosts = hosts_by_address s.world l.made; routes = found; began = l.began }) }
+abbrev told_deed : List Piece → Deed
+told_deed out = record { acts = []; output = out; note = Nothing }
 
-mapped-one : (s a b : SessionState) (host depth tries : ℕ) (out other : List Piece) (v w : WorldState) (j l : List Entry) (m k : NetMap) (x y : MapWords)
-    → IsMapped host depth tries s.world v j m x → IsMapped host depth tries s.world w l k y
-    → out ≡ map_printed host s.world v j m x → other ≡ map_printed host s.world w l k y → a ≡ map_left s host v m x → b ≡ map_left s host w k y
-    → (out ≡ other) × (a ≡ b)
-mapped-one s a b host depth tries out other v w j l m k x y first second printed reprinted left again =
-    let one = mapping_is_one host depth tries s.world v w j l m k x y first second in (
-      printed ∙ (λ i. map_printed host s.world (one.0 i) (one.1 i) (one.2 i) (one.3 i)) ∙ sym reprinted,
-      left ∙ (λ i. map_left s host (one.0 i) (one.2 i) (one.3 i)) ∙ sym again,
-    )
+abbrev routes_deed : SessionState → LastMap → List Route → Deed
+routes_deed s l found = record {
+  acts = [];
+  output = lines (routes_lines l.made found);
+  note = KeepsRoutes (record { mapper = l.mapper; hosts = hosts_by_address s.world l.made; routes = found; began = l.began });
+}
 
-routed-one : (s a b : SessionState) (out other : List Piece) (l k : LastMap) (found others : List Route)
-    → complete_map s.last_map ≡ Some l → complete_map s.last_map ≡ Some k → AreRoutesOf l.made (order_of l.made) found → AreRoutesOf k.made (order_of k.made) others
-    → out ≡ lines (routes_lines l.made found) → other ≡ lines (routes_lines k.made others) → a ≡ routes_left s l found → b ≡ routes_left s k others
-    → (out ≡ other) × (a ≡ b)
-routed-one s a b out other l k found others there again are found_too printed reprinted left left_too =
+-- a command is one deed
+pub deed-one : {s : SessionState} {c : Command} {d e : Deed} → IsDeed s c d → IsDeed s c e → d ≡ e
+deed-one {d = d} {e = e} (determined p) (determined q) = some-deed d e (sym p ∙ q)
+deed-one {s = s} {c = c} {d = d} (determined p) (maps {host = host} {depth = depth} {tries = tries} after j m words idle made is) = absurd (some-none (deed_of s c) d p (not-busy s host depth tries idle))
+deed-one {s = s} {c = c} {d = d} (determined p) (circuits out told is) = absurd (some-none (deed_of s c) d p refl)
+deed-one {s = s} {c = c} {d = d} (determined p) (routes l found there are is) = absurd (some-none (deed_of s c) d p (not-refused s l there))
+deed-one {s = s} {c = c} {e = e} (maps {host = host} {depth = depth} {tries = tries} after j m words idle made is) (determined q) = absurd (some-none (deed_of s c) e q (not-busy s host depth tries idle))
+deed-one {s = s} (maps {host = host} {depth = depth} {tries = tries} v j m x idle made is) (maps w l k y again remade are) =
+    let one = mapping_is_one host depth tries s.world v w j l m k x y made remade in
+    is ∙ (λ i. map_deed s host tries (one.0 i) (one.1 i) (one.2 i) (one.3 i)) ∙ sym are
+deed-one {s = s} {c = c} {e = e} (circuits out told is) (determined q) = absurd (some-none (deed_of s c) e q refl)
+deed-one {s = s} (circuits {host = host} {depth = depth} out told is) (circuits other again are) = is ∙ ap told_deed (told-one (fabric_of s.world) host depth out other told again) ∙ sym are
+deed-one {s = s} {c = c} {e = e} (routes l found there are is) (determined q) = absurd (some-none (deed_of s c) e q (not-refused s l there))
+deed-one {s = s} (routes l found there are is) (routes k others again found_too is_too) =
     let same : l ≡ k = some-map l k (sym there ∙ again) in
-    let one : found ≡ others = routes_are_one k.made (order_of k.made) found others (subst (λ (z : LastMap). AreRoutesOf z.made (order_of z.made) found) same are) found_too in (
-      printed ∙ (λ i. lines (routes_lines (same i).made (one i))) ∙ sym reprinted,
-      left ∙ (λ i. routes_left s (same i) (one i)) ∙ sym left_too,
-    )
-
-determined-one : (s a b : SessionState) (c : Command) (out other : List Piece) → outcome s c ≡ Some (record { output = out; after = a }) → outcome s c ≡ Some (record { output = other; after = b }) → (out ≡ other) × (a ≡ b)
-determined-one s a b c out other e f =
-    let one = some-outcome (record { output = out; after = a }) (record { output = other; after = b }) (sym e ∙ f) in
-    (ap (λ (z : Outcome). z.output) one, ap (λ (z : Outcome). z.after) one)
+    let one : found ≡ others = routes_are_one k.made (order_of k.made) found others (subst (λ (z : LastMap). AreRoutesOf z.made (order_of z.made) found) same are) found_too in
+    is ∙ (λ i. routes_deed s (same i) (one i)) ∙ sym is_too
 
 pub does-one : {s a b : SessionState} {c : Command} {out other : List Piece} → Does s c out a → Does s c other b → (out ≡ other) × (a ≡ b)
-does-one {s = s} {a = a} {b = b} {c = c} {out = out} {other = other} (determined e) (determined f) = determined-one s a b c out other e f
-does-one {s = s} {a = a} {c = c} {out = out} (determined e) (maps after j m words none made printed left) = absurd (some-none (outcome s c) (record { output = out; after = a }) e none)
-does-one {s = s} {a = a} {c = c} {out = out} (determined e) (circuits told left) = absurd (some-none (outcome s c) (record { output = out; after = a }) e refl)
-does-one {s = s} {a = a} {c = c} {out = out} (determined e) (routes l found there are printed left) = absurd (some-none (outcome s c) (record { output = out; after = a }) e (not-refused s l there))
-does-one {s = s} {b = b} {c = c} {other = other} (maps after j m words none made printed left) (determined e) = absurd (some-none (outcome s c) (record { output = other; after = b }) e none)
-does-one {s = s} {a = a} {b = b} {out = out} {other = other} (maps {host = host} {depth = depth} {tries = tries} v j m x none made printed left) (maps w l k y free again reprinted left_too) =
-    mapped-one s a b host depth tries out other v w j l m k x y made again printed reprinted left left_too
-does-one {s = s} {b = b} {c = c} {other = other} (circuits told left) (determined e) = absurd (some-none (outcome s c) (record { output = other; after = b }) e refl)
-does-one {s = s} {out = out} {other = other} (circuits {host = host} {depth = depth} told left) (circuits again left_too) = (told-one (fabric_of s.world) host depth out other told again, left ∙ sym left_too)
-does-one {s = s} {b = b} {c = c} {other = other} (routes l found there are printed left) (determined e) = absurd (some-none (outcome s c) (record { output = other; after = b }) e (not-refused s l there))
-does-one {s = s} {a = a} {b = b} {out = out} {other = other} (routes l found there are printed left) (routes k others again found_too reprinted left_too) =
-    routed-one s a b out other l k found others there again are found_too printed reprinted left left_too
+does-one {s = s} d e =
+    let same : d.deed ≡ e.deed = deed-one d.is e.is in
+    (d.prints ∙ ap (λ (x : Deed). x.output) same ∙ sym e.prints, d.leaves ∙ ap (session_after s) same ∙ sym e.leaves)
 
 pub doing_is_one : DoingIsOne
 doing_is_one s a b c out other d e = does-one d e

@@ -17,8 +17,9 @@ use Rattle.run_defs.specs.declared.command.Command.TheVariants.{Settle}
 use Rattle.run_defs.specs.declared.line.Line.TheVariants.{Settle as SettleLine}
 use Rattle.run_defs.specs.Output.{Piece, OneLine}
 use Rattle.run_defs.specs.Session.{SessionState}
-use Rattle.run_defs.specs.Outcome.{Outcome, settled, outcome}
-use Rattle.run_defs.specs.Run.Does.{determined}
+use Rattle.run_defs.specs.Outcome.{Outcome, settle_lines, happening, seen, outcome}
+use Rattle.run_defs.proofs.Doing.{Doing, doing, acted-settle}
+use Rattle.run_defs.proofs.Doing.Doing.{determined}
 use Rattle.run_laws.proofs.Reaching.{run_is_reached}
 use Rattle.world_defs.specs.Log.{Log}
 use Rattle.world_defs.specs.Logs as log
@@ -45,13 +46,14 @@ settle-prints : (s next : SessionState) (rounds resets unacked : ℕ) (rest : Li
 settle-prints s next rounds resets unacked rest e =
     let l : Log log.Rounds = log.settle s.world in
     let said : Outcome = record { output = OneLine (SettleLine rounds resets unacked) ∷ rest; after = next } in
-    let o : settled s l ≡ said = same_Some (settled s l) said e in
+    let d : Outcome = seen s (happening l.events (settle_lines l)) in
+    let o : d ≡ said = same_Some d said e in
     let printed : OneLine (SettleLine l.value.rounds (min l.value.resets last_count) (unacknowledged_in l.world)) ∷ [] ≡ OneLine (SettleLine rounds resets unacked) ∷ rest = ap (λ (x : Outcome). x.output) o in
     let number : l.value.rounds ≡ rounds = cc in
     let counted : min l.value.resets last_count ≡ resets = cc in
     let unacked_is : unacknowledged_in l.world ≡ unacked = cc in
     record {
-      after = ap (λ (x : Outcome). x.after.world) o;
+      after = sym (acted-settle s.world) ∙ ap (λ (x : Outcome). x.after.world) o;
       round_count = number;
       reset_count = counted;
       left = unacked_is;
@@ -85,6 +87,9 @@ line-so s next rounds resets unacked can p =
       got = λ none. subst IsAllGot after (settle-got first w can.reached (p.left ∙ none));
     }
 
+does-settle : (s next : SessionState) (rounds resets unacked : ℕ) (rest : List Piece) → Doing s Settle (OneLine (SettleLine rounds resets unacked) ∷ rest) next → Prints s next rounds resets unacked
+does-settle s next rounds resets unacked rest (determined e) = settle-prints s next rounds resets unacked rest e
+
 pub line-true : SettledLineIsTrue
-line-true n commands out rest s next rounds resets unacked f all r (determined e) =
-    line-so s next rounds resets unacked (run-can_settle n commands out s f all r).1 (settle-prints s next rounds resets unacked rest e)
+line-true n commands out rest s next rounds resets unacked f all r d =
+    line-so s next rounds resets unacked (run-can_settle n commands out s f all r).1 (does-settle s next rounds resets unacked rest (doing d))

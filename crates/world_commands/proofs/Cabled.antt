@@ -1,6 +1,6 @@
 -- That commands of cables and epochs are done over a world, and what is left of them where memory runs out.
 use Rattle.std.proofs.Common.{◌≡◌, ◌<◌, ℕ, Bool, true, false, ◌&&◌, nat_lt, List, [], ◌∷◌, ◌++◌, map, length, Option, Some, None, is_some, is_none, refl, sym, ◌∙◌, ap, subst, ◌⊎◌, inl, inr, if◌then◌else◌}
-use Rattle.std.specs.Prelude.{flat_map, IfSome, IfOk, OnErr, Result, Ok, Err, option_map}
+use Rattle.std.specs.Prelude.{IfSome, IfOk, OnErr, Result, Ok, Err, option_map}
 use Rattle.std.specs.List.{AllByRecursion, filter}
 use Rattle.std.proofs.lemmas.List.{append_assoc, append-nil}
 use Rattle.net_defs.specs.declared.vertex.Vertex.{Vertex}
@@ -17,8 +17,8 @@ use Rattle.link_defs.specs.Links.{LinkState}
 use Rattle.world_defs.specs.declared.event.Event.{Event}
 use Rattle.world_defs.specs.declared.event.Event.TheVariants.{Pull as PullEvent, Plug as PlugEvent}
 use Rattle.world_defs.specs.declared.effect.Effect.{Effect}
-use Rattle.world_defs.specs.declared.effect.Effect.TheVariants.{Idle, Injected, Moved, Blocked, Arrived, Dropped, Lost, Reset, Flipped, Expired, GaveUp, Repeated, Held, Replayed, Staged, Said}
-use Rattle.world_defs.specs.declared.effect.Said.TheVariants.{Done, Count, Token, Sent, Received, Nothing, Refused}
+use Rattle.world_defs.specs.declared.effect.Effect.TheVariants.{Said}
+use Rattle.world_defs.specs.declared.effect.Said.TheVariants.{Done}
 use Rattle.world_defs.specs.Table.{Adoption}
 use Rattle.world_defs.specs.World.{WorldState, fabric_of, host_count}
 use Rattle.world_defs.specs.Step.{of_links, plugged, step, steps}
@@ -30,9 +30,11 @@ use Rattle.run_defs.specs.declared.line.Line.TheVariants.{Pull as PullLine, Plug
 use Rattle.run_defs.specs.declared.line.PlugWords.{PlugWords}
 use Rattle.run_defs.specs.declared.line.PlugWords.TheVariants.{Done as Joined, PortUsed, Full}
 use Rattle.run_defs.specs.LineText.{line_text, output_text}
-use Rattle.run_defs.specs.Outcome.{Outcome, outcome, is_done, pull_done, words_of_plug, plug_done, revocations, revoke_done, broken_routes, broken_lines, says_only}
-use Rattle.run_defs.specs.Output.{Piece, OneLine, lines}
+use Rattle.run_defs.specs.Outcome.{Outcome, outcome, seen, is_done, words_of_plug, revocations, broken_routes, broken_lines}
+use Rattle.run_defs.specs.Output.{OneLine, lines}
+use Rattle.run_defs.specs.Deed.{says}
 use Rattle.run_defs.specs.Session.{SessionState, LastMap, LastRoutes}
+use Rattle.run_defs.proofs.Doing.{acted-revocations}
 use Rattle.run_defs.specs.Summary.{figures_in}
 use Rattle.fab_report.specs.Printed.{PrintedState, printed_of}
 use Rattle.adopted_routes.specs.Adopting.{IsSetOfHosts}
@@ -68,13 +70,20 @@ end-stays w v e l is = of e.v (port-vertex (fabric_of w) e is)
     of (Host h) is = host-stays w v h l is
     of (Switch s) is = let k = later-kept l in subst (λ (all : List NamedSwitch). nat_lt s (length all) ≡ true) (sym k.switches) is
 
+-- what a pull and a plug come to, by the effect and the world then
+abbrev pull_outcome : SessionState → End → Effect × WorldState → Outcome
+pull_outcome s at x = record { output = OneLine (PullLine at (is_done x.0)) ∷ []; after = record s { world = x.1 } }
+
+abbrev plug_outcome : SessionState → End → End → Effect × WorldState → Outcome
+plug_outcome s a b x = record { output = OneLine (PlugLine a b (words_of_plug s.world a b)) ∷ []; after = record s { world = x.1 } }
+
 -- ---- a pull
 pub pulled_so : (w v : WorldState) (at : End) (done : Bool) (told : PrintedState) → step w (PullEvent at) ≡ (effect_of done, v) → told ≡ printed_of (fabric_of w) (OneLine (PullLine at done) ∷ [])
     → IsDone (Pull at) w v told
-pulled_so w v at done told is e = one (Pull at) (PullLine at done) w v told (λ made found. ap (λ (x : Effect × WorldState). Some (pull_done (session_of w made found) at x)) is ∙ by made found done) e
+pulled_so w v at done told is e = one (Pull at) (PullLine at done) w v told (λ made found. ap (λ (x : Effect × WorldState). Some (pull_outcome (session_of w made found) at x)) is ∙ by made found done) e
   where
     by : (made : Option LastMap) (found : Option LastRoutes) (b : Bool)
-        → Some (pull_done (session_of w made found) at (effect_of b, v)) ≡ Some (record { output = OneLine (PullLine at b) ∷ []; after = session_of v made found })
+        → Some (pull_outcome (session_of w made found) at (effect_of b, v)) ≡ Some (record { output = OneLine (PullLine at b) ∷ []; after = session_of v made found })
     by made found true = refl
     by made found false = refl
 
@@ -85,7 +94,7 @@ pulled_left w v at done is =
 
 -- ---- a plug
 plugged-to : (x : Effect × WorldState) (w v : WorldState) (a b : End) (made : Option LastMap) (found : Option LastRoutes) → v ≡ x.1
-    → Some (plug_done (session_of w made found) a b x) ≡ Some (record { output = OneLine (PlugLine a b (words_of_plug w a b)) ∷ []; after = session_of v made found })
+    → Some (plug_outcome (session_of w made found) a b x) ≡ Some (record { output = OneLine (PlugLine a b (words_of_plug w a b)) ∷ []; after = session_of v made found })
 plugged-to (effect, u) w v a b made found same = ap (λ (y : WorldState). Some (record { output = OneLine (PlugLine a b (words_of_plug w a b)) ∷ []; after = session_of y made found })) (sym same)
 
 pub plugged_so : (w v : WorldState) (a b : End) (words : PlugWords) (told : PrintedState) → v ≡ (step w (PlugEvent a b)).1 → words ≡ words_of_plug w a b
@@ -167,40 +176,21 @@ plug-refused {T = T} w v a b r e c is same other refuses unchanged =
 
 -- ---- the revocations of all hosts
 pub done-same : (x : Effect) → is_done_event x ≡ is_done x
-done-same Idle = refl
-done-same (Injected n) = refl
-done-same (Moved c) = refl
-done-same (Blocked c) = refl
-done-same (Arrived h heard) = refl
-done-same (Dropped cause) = refl
-done-same Lost = refl
-done-same Reset = refl
-done-same Flipped = refl
-done-same Expired = refl
-done-same GaveUp = refl
-done-same (Repeated s) = refl
-done-same (Held s) = refl
-done-same (Replayed c) = refl
-done-same Staged = refl
 done-same (Said Done) = refl
-done-same (Said (Count c)) = refl
-done-same (Said (Token t)) = refl
-done-same (Said (Sent t)) = refl
-done-same (Said (Received t from sport prio body)) = refl
-done-same (Said Nothing) = refl
-done-same (Said (Refused cause)) = refl
+done-same _ = refl
 
 pub counts-same : (xs : List Effect) → length (filter is_done_event xs) ≡ length (filter is_done xs)
 counts-same xs = λ i. length (filter (λ x. done-same x i) xs)
 
-revoked-to : (x : List Effect × WorldState) (w v : WorldState) (made : Option LastMap) (found : Option LastRoutes) → v ≡ x.1
-    → Some (revoke_done (session_of w made found) x) ≡ Some (record { output = OneLine (Revoked (length (filter is_done x.0))) ∷ []; after = session_of v made found })
-revoked-to (effects, u) w v made found same = ap (λ (y : WorldState). Some (record { output = OneLine (Revoked (length (filter is_done effects))) ∷ []; after = session_of y made found })) (sym same)
+revoked-to : (w v : WorldState) (made : Option LastMap) (found : Option LastRoutes) → v ≡ (steps w (revocations w)).1
+    → outcome (session_of w made found) Revoke ≡ Some (record { output = OneLine (Revoked (length (filter is_done (steps w (revocations w)).0))) ∷ []; after = session_of v made found })
+revoked-to w v made found same =
+    ap (λ (u : WorldState). Some (record { output = OneLine (Revoked (length (filter is_done (steps w (revocations w)).0))) ∷ []; after = session_of u made found })) (acted-revocations w ∙ sym same)
 
 pub revoked_so : (w v : WorldState) (count : ℕ) (told : PrintedState) → v ≡ (steps w (revocations w)).1 → count ≡ length (filter is_done (steps w (revocations w)).0)
     → told ≡ printed_of (fabric_of w) (OneLine (Revoked count) ∷ []) → IsDone Revoke w v told
 revoked_so w v count told after is e =
-    one Revoke (Revoked (length (filter is_done (steps w (revocations w)).0))) w v told (λ made found. revoked-to (steps w (revocations w)) w v made found after)
+    one Revoke (Revoked (length (filter is_done (steps w (revocations w)).0))) w v told (λ made found. revoked-to w v made found after)
     (e ∙ ap (λ n. printed_of (fabric_of w) (OneLine (Revoked n) ∷ [])) is)
 
 pub revoked_left : (w v : WorldState) → v ≡ (steps w (revocations w)).1 → IsLeft Revoke w v InLine
@@ -261,7 +251,7 @@ none-adopted (Some a) is = cc
 pub broken_left : (w : WorldState) (a : Adoption) → w.adopted ≡ Some a → IsLeft Broken w w InDoing
 broken_left w a is = undone refl (λ made found.
     let s : SessionState = session_of w made found in
-    begun-other s Broken (says_only s (broken_lines w (Some a))) (ap (λ o. Some (says_only s (broken_lines w o))) is) (first (broken_routes w a)))
+    begun-other s Broken (seen s (says (broken_lines w (Some a)))) (ap (λ o. Some (seen s (says (broken_lines w o)))) is) (first (broken_routes w a)))
   where
     first : (rs : List Route) → is_refusal_line (first-line (lines (map broken_line rs ++ EndBroken ∷ []))) ≡ false
     first [] = refl

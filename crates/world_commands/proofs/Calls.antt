@@ -9,7 +9,7 @@ use Rattle.gm_defs.specs.declared.token.TokenPlace.{TokenPlace}
 use Rattle.gm_defs.specs.Token.{PortState}
 use Rattle.world_defs.specs.declared.effect.Effect.TheVariants.{Said as SaidSo}
 use Rattle.world_defs.specs.declared.effect.Said.{Said}
-use Rattle.world_defs.specs.declared.effect.Said.TheVariants.{Done, Count, Token, Sent, Received, Nothing, Refused}
+use Rattle.world_defs.specs.declared.effect.Said.TheVariants.{Received}
 use Rattle.world_defs.specs.World.{WorldState, fabric_of, host_count}
 use Rattle.run_defs.specs.Outcome.{places, token_lines}
 use Rattle.run_defs.specs.Output.{OneLine, lines}
@@ -39,13 +39,8 @@ message_given w host dest port dport prio m there dest_there low dlow few = (hos
 
 -- the sender of a message that was received is a host of the fabric
 pub said_there : (n : Network) (said : Said) → IsOfHosts (length n.hosts) (SaidSo said) → IsSaidOf n said
-said_there n Done is = tt
-said_there n (Count k) is = tt
-said_there n (Token t) is = tt
-said_there n (Sent t) is = tt
 said_there n (Received t from sport prio body) is = reached-there n from is
-said_there n Nothing is = tt
-said_there n (Refused cause) is = tt
+said_there n _ is = tt
 
 -- how many tokens of each kind a port has, where it is open
 abbrev minted_of : Option PortState → Option (ℕ × ℕ)

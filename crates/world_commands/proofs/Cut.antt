@@ -16,7 +16,7 @@ use Rattle.run_defs.specs.declared.line.ClientCall.{ClientCall}
 use Rattle.run_defs.specs.declared.line.Line.{Line}
 use Rattle.run_defs.specs.declared.line.Line.TheVariants.{Walk as WalkLine, NoMap, PlanAt, Step as StepOutput, Client, Finish as FinishLine}
 use Rattle.run_defs.specs.declared.line.StepWords.TheVariants.{Idle}
-use Rattle.run_defs.specs.Outcome.{Outcome, called, client_lines, event_of, fault_of, outcome, step_or_idle, stepped, token_lines, words_of}
+use Rattle.run_defs.specs.Outcome.{Outcome, client_lines, event_of, fault_of, outcome, token_lines, words_of}
 use Rattle.run_defs.specs.Output.{Piece, OneLine, lines}
 use Rattle.run_defs.specs.Session.{SessionState}
 use Rattle.fab_report.specs.Printed.{PrintedState, printed_of}
@@ -27,7 +27,7 @@ use Rattle.world_commands.specs.declared.requests.PortAt.{PortAt}
 use Rattle.world_commands.specs.Cut.{is_refusal_line, IsRefused, IsLeft, IsEventLeft}
 use Rattle.world_commands.specs.Cut.IsLeft.{undone, unprinted}
 use Rattle.world_commands.specs.Done.{IsCall, IsDone, session_of}
-use Rattle.world_commands.proofs.Done.{walked, finished, planned_so, tokens_so, called_so, stepped_so, idle_so}
+use Rattle.world_commands.proofs.Done.{walked, finished, planned_so, tokens_so, call_outcome, call-done, called_so, step-done, stepped_so, idle_so}
 
 -- where memory ran out while a command was done, and in its line, what holds then holds
 pub in-doing : {A : Type 0} (r : Result A OutOfMemory) (P : OutOfMemory → Type 0) → P InDoing → IfErr r (λ e. e ≡ InDoing) → IfErr r P
@@ -73,12 +73,12 @@ nothing-printed s next c is r =
     cc
 
 -- a client's call
-call-kept : (s : SessionState) (c : Command) (call : ClientCall) (at : PortAt) (x : Effect × WorldState) → outcome s c ≡ Some (called s call at.host at.port x) → is_refusal x.0 ≡ false → IsRefused s c → ⊥
+call-kept : (s : SessionState) (c : Command) (call : ClientCall) (at : PortAt) (x : Effect × WorldState) → outcome s c ≡ Some (call_outcome s call at x) → is_refusal x.0 ≡ false → IsRefused s c → ⊥
 call-kept s c call at (SaidSo said, u) is other r = not-refused s (record s { world = u }) c (Client call at.host at.port said) is other r
 call-kept s c call at (effect, u) is other r = nothing-printed s (record s { world = u }) c is r
 
 pub call_left : (c : Command) (call : ClientCall) (at : PortAt) (event : Event) (w v : WorldState) → IsCall c call at event → v ≡ w → is_refusal (step w event).0 ≡ false → IsLeft c w v InDoing
-call_left c call at event w v is same other = undone same (λ made found. call-kept (session_of w made found) c call at (step w event) (is (session_of w made found)) other)
+call_left c call at event w v is same other = undone same (λ made found. call-kept (session_of w made found) c call at (step w event) (call-done (session_of w made found) c call at event is) other)
 
 pub called_left : (c : Command) (call : ClientCall) (at : PortAt) (event : Event) (x : Effect × WorldState) (w v : WorldState) → IsCall c call at event → step w event ≡ x → v ≡ x.1 → IsLeft c w v InLine
 called_left c call at event x w v is happened same =
@@ -115,11 +115,13 @@ finish_left w =
     unprinted told (finished w told refl)
 
 -- a step
-step-kept : (s : SessionState) (line : StepLine) (x : Effect × WorldState) → outcome s (Step line) ≡ Some (stepped s x) → IsRefused s (Step line) → ⊥
-step-kept s line (effect, u) is = not-refused s (record s { world = u }) (Step line) (StepOutput (words_of u effect)) is refl
+step-kept : (s : SessionState) (line : StepLine) (event : Event) → event_of s.world line ≡ Some event → IsRefused s (Step line) → ⊥
+step-kept s line event is =
+    let x : Effect × WorldState = step s.world event in
+    not-refused s (record s { world = x.1 }) (Step line) (StepOutput (words_of x.1 x.0)) (step-done s line (Some event) is) refl
 
 pub step_left : (w v : WorldState) (line : StepLine) (event : Event) (e : OutOfMemory) → event_of w line ≡ Some event → IsEventLeft event w v e → IsLeft (Step line) w v e
-step_left w v line event InDoing is same = undone same (λ made found. step-kept (session_of w made found) line (step w event) (ap (λ (o : Option Event). Some (step_or_idle (session_of w made found) o)) is))
+step_left w v line event InDoing is same = undone same (λ made found. step-kept (session_of w made found) line event is)
 step_left w v line event InLine is same =
     let told : PrintedState = printed_of (fabric_of w) (OneLine (StepOutput (words_of (step w event).1 (step w event).0)) ∷ []) in
     unprinted told (stepped_so w v line event told is same refl)

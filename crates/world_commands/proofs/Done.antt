@@ -1,5 +1,5 @@
 -- That commands are done over a world, by what they print.
-use Rattle.std.proofs.Common.{◌≡◌, ℕ, ℤ, List, [], ◌∷◌, Option, Some, None, refl, sym, ◌∙◌, ap, subst}
+use Rattle.std.proofs.Common.{◌≡◌, ℕ, ℤ, List, [], ◌∷◌, Option, Some, None, option_map, refl, sym, ◌∙◌, ap, subst}
 use Rattle.net_defs.specs.Route.{place}
 use Rattle.world_defs.specs.declared.event.Event.{Event}
 use Rattle.world_defs.specs.declared.effect.Effect.{Effect}
@@ -7,17 +7,17 @@ use Rattle.world_defs.specs.Node.{port_at}
 use Rattle.world_defs.specs.Step.{step}
 use Rattle.world_defs.specs.World.{WorldState, fabric_of, node_at, planned}
 use Rattle.run_defs.specs.declared.command.Command.{Command}
-use Rattle.run_defs.specs.declared.command.Command.TheVariants.{Walk, Map, Circuit, Routes, Install, Begin, Close, Poll, Tokens, Provide, Send, Plan, Step, Settle, Finish, Duo, Pull, Plug, Revoke, Broken}
+use Rattle.run_defs.specs.declared.command.Command.TheVariants.{Walk, Map, Circuit, Routes, Install, Tokens, Plan, Step, Settle, Finish, Duo, Revoke}
 use Rattle.run_defs.specs.declared.command.PlanKind.{PlanKind}
 use Rattle.run_defs.specs.declared.command.StepLine.{StepLine}
 use Rattle.run_defs.specs.declared.line.ClientCall.{ClientCall}
 use Rattle.run_defs.specs.declared.line.Line.{Line}
 use Rattle.run_defs.specs.declared.line.Line.TheVariants.{Walk as WalkLine, PlanAt, Step as StepOutput, Finish as FinishLine}
 use Rattle.run_defs.specs.declared.line.StepWords.TheVariants.{Idle}
-use Rattle.run_defs.specs.Outcome.{called, client_lines, event_of, fault_of, outcome, step_or_idle, stepped, token_lines, words_of}
+use Rattle.run_defs.specs.Outcome.{Outcome, client_lines, event_of, fault_of, one_event, deed_of_kind, outcome, seen, token_lines, words_of}
 use Rattle.run_defs.specs.Output.{OneLine, lines}
 use Rattle.run_defs.specs.Duos.{IsOther}
-use Rattle.run_defs.specs.Session.{LastMap, LastRoutes}
+use Rattle.run_defs.specs.Session.{SessionState, LastMap, LastRoutes}
 use Rattle.fab_report.specs.Printed.{PrintedState, printed_of}
 use Rattle.world_commands.specs.declared.requests.PortAt.{PortAt}
 use Rattle.world_commands.specs.Done.{IsCall, IsDone, IsOneEvent, session_of}
@@ -47,33 +47,41 @@ tokens_so w host port told e = record {
   printed = e;
 }
 
--- a call of a client
+-- a call of a client, by its effect and the world then
+abbrev pub call_outcome : SessionState → ClientCall → PortAt → Effect × WorldState → Outcome
+call_outcome s call at x = record { output = lines (client_lines call at.host at.port x.0); after = record s { world = x.1 } }
+
+pub call-done : (s : SessionState) (c : Command) (call : ClientCall) (at : PortAt) (event : Event) → IsCall c call at event → outcome s c ≡ Some (call_outcome s call at (step s.world event))
+call-done s c call at event is = ap (λ k. option_map (seen s) (deed_of_kind s k)) is
+
 pub called_so : (c : Command) (call : ClientCall) (at : PortAt) (event : Event) (x : Effect × WorldState) (w v : WorldState) (told : PrintedState) → IsCall c call at event → step w event ≡ x → v ≡ x.1
     → told ≡ printed_of (fabric_of w) (lines (client_lines call at.host at.port x.0)) → IsDone c w v told
-called_so c call at event (effect, u) w v told is happened same e = record {
-  output = lines (client_lines call at.host at.port effect);
+called_so c call at event x w v told is happened same e = record {
+  output = lines (client_lines call at.host at.port x.0);
   determined = λ made found.
-      is (session_of w made found)
-      ∙ ap (λ (y : Effect × WorldState). Some (called (session_of w made found) call at.host at.port y)) happened
-      ∙ ap (λ (y : WorldState). Some (record { output = lines (client_lines call at.host at.port effect); after = session_of y made found })) (sym same);
+      call-done (session_of w made found) c call at event is
+      ∙ ap (λ (y : Effect × WorldState). Some (call_outcome (session_of w made found) call at y)) happened
+      ∙ ap (λ (y : WorldState). Some (record { output = lines (client_lines call at.host at.port x.0); after = session_of y made found })) (sym same);
   printed = e;
 }
 
--- an event
-stepped-to : (c : Command) (x : Effect × WorldState) (w v : WorldState) (told : PrintedState) → ((made : Option LastMap) → (found : Option LastRoutes) → outcome (session_of w made found) c ≡ Some (stepped (session_of w made found) x))
-    → v ≡ x.1 → told ≡ printed_of (fabric_of w) (OneLine (StepOutput (words_of x.1 x.0)) ∷ []) → IsDone c w v told
-stepped-to c (effect, u) w v told is same e =
-    let l : Line = StepOutput (words_of u effect) in
-    one c l w v told (λ made found. is made found ∙ ap (λ (y : WorldState). Some (record { output = OneLine l ∷ []; after = session_of y made found })) (sym same)) e
+-- a step, by its event
+abbrev pub step_lines : Effect → WorldState → List Line
+step_lines effect v = StepOutput (words_of v effect) ∷ []
+
+pub step-done : (s : SessionState) (line : StepLine) (o : Option Event) → event_of s.world line ≡ o → outcome s (Step line) ≡ Some (seen s (one_event s.world step_lines o))
+step-done s line o is = ap (λ (o : Option Event). Some (seen s (one_event s.world step_lines o))) is
 
 -- a step's line that is an event
 pub stepped_so : (w v : WorldState) (line : StepLine) (event : Event) (told : PrintedState) → event_of w line ≡ Some event → v ≡ (step w event).1
     → told ≡ printed_of (fabric_of w) (OneLine (StepOutput (words_of (step w event).1 (step w event).0)) ∷ []) → IsDone (Step line) w v told
-stepped_so w v line event told is same e = stepped-to (Step line) (step w event) w v told (λ made found. ap (λ (o : Option Event). Some (step_or_idle (session_of w made found) o)) is) same e
+stepped_so w v line event told is same e =
+    let l : Line = StepOutput (words_of (step w event).1 (step w event).0) in
+    one (Step line) l w v told (λ made found. step-done (session_of w made found) line (Some event) is ∙ ap (λ (y : WorldState). Some (record { output = OneLine l ∷ []; after = session_of y made found })) (sym same)) e
 
 -- a step on a port without cable
 pub idle_so : (w : WorldState) (line : StepLine) (told : PrintedState) → event_of w line ≡ None → told ≡ printed_of (fabric_of w) (OneLine (StepOutput Idle) ∷ []) → IsDone (Step line) w w told
-idle_so w line told none e = one (Step line) (StepOutput Idle) w w told (λ made found. ap (λ (o : Option Event). Some (step_or_idle (session_of w made found) o)) none) e
+idle_so w line told none e = one (Step line) (StepOutput Idle) w w told (λ made found. step-done (session_of w made found) line None none) e
 
 -- what was done by the command that it is
 pub done_as : (c d : Command) (w v : WorldState) (told : PrintedState) → IsDone d w v told → d ≡ c → IsDone c w v told
@@ -88,16 +96,5 @@ one-event (Install tries) w m k r i s v o = i tries refl
 one-event Settle w m k r i s v o = s refl
 one-event Revoke w m k r i s v o = v refl
 one-event (Walk host walk) w m k r i s v o = w host walk refl
-one-event (Begin host port sends recvs) w m k r i s v o = tt
-one-event (Close host port) w m k r i s v o = tt
-one-event (Poll host port) w m k r i s v o = tt
-one-event (Tokens host port) w m k r i s v o = tt
-one-event (Provide host port size prio) w m k r i s v o = tt
-one-event (Send host port dest dport prio len seed) w m k r i s v o = tt
-one-event (Plan ahead kind) w m k r i s v o = tt
-one-event (Step line) w m k r i s v o = tt
-one-event Finish w m k r i s v o = tt
-one-event (Pull at) w m k r i s v o = tt
-one-event (Plug a b) w m k r i s v o = tt
-one-event Broken w m k r i s v o = tt
 one-event (Duo e) w m k r i s v o = absurd (o e refl)
+one-event _ w m k r i s v o = tt

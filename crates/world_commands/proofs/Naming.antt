@@ -17,7 +17,7 @@ use Rattle.link_model.proofs.Limbos.{channel-below}
 use Rattle.link_model.proofs.Stepping.{course-below}
 use Rattle.world_defs.specs.declared.event.Event.{Event}
 use Rattle.world_defs.specs.declared.effect.Effect.{Effect}
-use Rattle.world_defs.specs.declared.effect.Effect.TheVariants.{Idle, Injected, Moved as MovedTo, Blocked, Arrived, Dropped, Lost, Reset as WasReset, Flipped, Expired, GaveUp, Repeated, Held as WasHeld, Replayed as ReplayedTo, Staged, Said}
+use Rattle.world_defs.specs.declared.effect.Effect.TheVariants.{Moved as MovedTo, Blocked, Arrived, Replayed as ReplayedTo}
 use Rattle.world_defs.specs.declared.arrival.Arrival.{Arrival}
 use Rattle.world_defs.specs.Node.{NodeState}
 use Rattle.world_defs.specs.World.{WorldState, fabric_of}
@@ -57,10 +57,7 @@ links-naming (LinksChange.plugs k) m = tt
 
 host-naming : {w : WorldState} {e : Event} {x : Effect} {h : ℕ} {n : NodeState} → HostChange w e x h n → IsNaming w x
 host-naming HostChange.asks = tt
-host-naming (HostChange.stages a p by d e f) = tt
-host-naming (HostChange.expires k) = tt
-host-naming (HostChange.gives_up k) = tt
-host-naming (HostChange.revokes a e) = tt
+host-naming _ = tt
 
 -- a host that a packet reaches is one of the fabric's
 pub reached-there : (n : Network) (h : ℕ) → h < length n.hosts → has_vertex n (Host h) ≡ true
@@ -84,22 +81,11 @@ change-naming (Change.calls k) m = tt
 
 -- over a world after it
 naming-over : (w v : WorldState) (x : Effect) → IsLater w.links.cables v.links.cables → length w.links.channels ≤ length v.links.channels → IsNaming w x → IsNaming v x
-naming-over w v Idle later more is = tt
-naming-over w v (Injected n) later more is = tt
 naming-over w v (MovedTo c) later more is = omega (arith, is, more)
 naming-over w v (Blocked c) later more is = omega (arith, is, more)
 naming-over w v (Arrived h heard) later more is = host-stays w v h later is
-naming-over w v (Dropped cause) later more is = tt
-naming-over w v Lost later more is = tt
-naming-over w v WasReset later more is = tt
-naming-over w v Flipped later more is = tt
-naming-over w v Expired later more is = tt
-naming-over w v GaveUp later more is = tt
-naming-over w v (Repeated serial) later more is = tt
-naming-over w v (WasHeld serial) later more is = tt
 naming-over w v (ReplayedTo c) later more is = omega (arith, is, more)
-naming-over w v Staged later more is = tt
-naming-over w v (Said said) later more is = tt
+naming-over w v _ later more is = tt
 
 -- what an event did names what is there after it
 pub step-naming : (w v : WorldState) (e : Event) (x : Effect) → IsMoment w → step w e ≡ (x, v) → IsLater w.links.cables v.links.cables → length w.links.channels ≤ length v.links.channels → IsNaming v x

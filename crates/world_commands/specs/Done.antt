@@ -1,14 +1,13 @@
 -- That a command was done over a world, whatever else a session holds, and what it printed.
 use Rattle.std.specs.Prelude.{◌≡◌, List, Option, Some, None}
 use Rattle.world_defs.specs.declared.event.Event.{Event}
-use Rattle.world_defs.specs.Step.{step}
 use Rattle.world_defs.specs.World.{WorldState, fabric_of}
 use Rattle.run_defs.specs.declared.command.Command.{Command}
 use Rattle.run_defs.specs.declared.command.Command.TheVariants.{Walk, Map, Circuit, Routes, Install, Begin}
 use Rattle.run_defs.specs.declared.command.Command.TheVariants.{Close, Poll, Tokens, Provide, Send, Settle, Duo}
 use Rattle.run_defs.specs.declared.command.Command.TheVariants.{Pull, Plug, Revoke, Broken}
 use Rattle.run_defs.specs.declared.line.ClientCall.{ClientCall}
-use Rattle.run_defs.specs.Outcome.{called, outcome}
+use Rattle.run_defs.specs.Outcome.{calling, kind_of, outcome}
 use Rattle.run_defs.specs.Output.{Piece}
 use Rattle.run_defs.specs.Session.{SessionState, LastMap, LastRoutes}
 use Rattle.fab_report.specs.Printed.{PrintedState, printed_of}
@@ -30,7 +29,7 @@ pub record IsDone (c : Command) (before after : WorldState) (told : PrintedState
 
 -- a command is this call of a client, by its event
 abbrev pub IsCall : Command → ClientCall → PortAt → Event → Type 0
-IsCall c call at event = (s : SessionState) → outcome s c ≡ Some (called s call at.host at.port (step s.world event))
+IsCall c call at event = kind_of c ≡ calling call at.host at.port event
 
 -- the command that sends a message from a port
 abbrev pub sending : PortAt → SendRequest → Command
