@@ -1,6 +1,6 @@
 -- That a map which says complete is one to compute routes of, and that its routes may be installed.
-use Rattle.std.proofs.Common.{◌≡◌, ◌<◌, ◌∙◌, ℕ, ℤ, true, true≢false, List, [], ◌∷◌, length, Option, None, Result, Ok, Err, refl, sym, ap, subst, arith}
-use Rattle.std.specs.Prelude.{is_ok, OnOk}
+use Rattle.std.proofs.Common.{◌≡◌, ◌<◌, ◌∙◌, ℕ, ℤ, true, true≢false, List, [], ◌∷◌, length, Option, None, Result, Ok, Err, sym, ap, subst, arith}
+use Rattle.std.specs.Prelude.{is_none, is_ok, OnOk}
 use Rattle.std.proofs.lemmas.Bool.Decides.{nat_tests}
 use Rattle.net_defs.specs.declared.place.Answer.{Answer}
 use Rattle.net_defs.specs.declared.route.Route.{Route}
@@ -12,26 +12,30 @@ use Rattle.map_defs.specs.Routing.{AreRoutesOf}
 use Rattle.map_defs.specs.Sameness.{IsMapOfPart}
 use Rattle.map_laws.proofs.Connected.{quotient_is_connected}
 use Rattle.map_laws.proofs.Size.{right_map_is_no_larger}
+use Rattle.cable_history.specs.History.{fabric_at}
+use Rattle.cable_history.proofs.Now.{last_is_now}
 use Rattle.link_defs.specs.Links.{is_idle}
 use Rattle.link_defs.proofs.Shapes.{empty-idle}
-use Rattle.world_defs.specs.World.{WorldState, fabric_of, host_count, new_world, adopted_by, keeps_epoch, may_adopt}
+use Rattle.world_defs.specs.World.{WorldState, fabric_of, host_count, new_world, standing_of, adopted_by, may_adopt}
 use Rattle.port_graph.specs.Routes.{HandsBack}
-use Rattle.adopted_routes.specs.Adopting.{IsAdoptable}
+use Rattle.adopted_routes.specs.Adopting.{IsAdoptable, adopt_refusal}
+use Rattle.adopted_routes.specs.declared.routes.AdoptRefusal.{AdoptRefusal}
+use Rattle.adopted_routes.proofs.Refusals.{refused_exactly}
 use Rattle.fab_world.specs.Events.{IsHostOf}
 use Rattle.fab_world.specs.Held.{IsMoment}
 use Rattle.table_installing.specs.Installing.{CanInstall}
+use Rattle.table_installing.proofs.Adoptions.{adopted-installable}
 use Rattle.run_defs.specs.Session.{LastRoutes}
-use Rattle.route_making.specs.Listed.{map_hosts_below}
 use Rattle.map_canon.specs.Printing.{AreOfFabric}
 use Rattle.map_making.specs.declared.making.MadeMap.{MadeMap}
 use Rattle.map_making.specs.Made.{IsMade}
 use Rattle.mapper.specs.Asks.{AreAsked}
 use Rattle.journal_defs.specs.declared.entry.Entry.{Entry}
 use Rattle.world_asking.specs.Prober.{WorldAsking, IsAsked}
-use Rattle.run_session.specs.Kept.{IsKeptMap, AreKeptRoutes}
 use Rattle.act_defs.specs.Acts.{IsReached}
-use Rattle.run_session.proofs.Installable.{kept-adoptable, kept-installable, mapper-there}
-use Rattle.run_session.proofs.Installs.{accepted-idle, adopted-are_last}
+use Rattle.route_making.specs.Kept.{IsKeptMap, AreKeptRoutes}
+use Rattle.route_making.specs.Listed.{map_hosts_below}
+use Rattle.route_making.proofs.Adoptable.{kept-adoptable, kept-mapper, kept-named, kept-rise}
 
 -- asks keep the number of changes before the first
 pub asked-made : (s t : WorldAsking) (j : List Entry) → AreAsked WorldAsking IsAsked s j t → t.made ≡ s.made
@@ -83,16 +87,20 @@ pub adoptable : (w : WorldState) (mapper : ℕ) (m : NetMap) (routes : List Rout
 adoptable w mapper m routes now kept are = kept-adoptable (fabric_of w) (last w mapper m routes) now.fabric (kept-routes w mapper m routes now kept are)
 
 pub adopter-there : (w : WorldState) (mapper : ℕ) (m : NetMap) (routes : List Route) → IsMoment w → IsKeptMap (fabric_of w) mapper m → AreRoutesOf m (order_of m) routes → IsHostOf w mapper
-adopter-there w mapper m routes now kept are = mapper-there w (last w mapper m routes) now (kept-routes w mapper m routes now kept are)
+adopter-there w mapper m routes now kept are =
+    let hosts : host_count w ≡ length (fabric_of w).hosts = now.world.hosts in
+    let low : mapper < length (fabric_of w).hosts = kept-mapper (fabric_of w) (last w mapper m routes) (kept-routes w mapper m routes now kept are) in
+    omega (arith, hosts, low)
 
 -- and once they are, they can be installed on the hosts of the map
 pub installable : (n : Network) (w v : WorldState) (mapper : ℕ) (m : NetMap) (routes : List Route) → IsMoment w → IsReached n w → may_adopt w routes ≡ true → IsKeptMap (fabric_of w) mapper m → AreRoutesOf m (order_of m) routes → is_idle w.links ≡ true → v ≡ adopted_by w mapper routes
-    → fabric_of v ≡ fabric_of w → host_count v ≡ host_count w → CanInstall v (hosts_in v m) 1
-installable n w v mapper m routes now reached may kept are idle same fabric hosts =
+    → host_count v ≡ host_count w → CanInstall v (hosts_in v m) 1
+installable n w v mapper m routes now reached may kept are idle same hosts =
     let l : LastRoutes = last w mapper m routes in
-    let adopted = adopted-are_last n w v l reached may same in
-    kept-installable v l (hosts_in v m) 1 v.adopted refl adopted.0 adopted.1 (ap (λ x. is_idle x.links) same ∙ accepted-idle w.links (keeps_epoch w routes) ∙ idle)
-    (subst (λ k. AreKeptRoutes k l) (sym fabric) (kept-routes w mapper m routes now kept are)) (omega arith) (omega arith) (ap (λ k. map_hosts_below k m) hosts)
+    let k : AreKeptRoutes (fabric_of w) l = kept-routes w mapper m routes now kept are in
+    subst (λ (count : ℕ). CanInstall v (map_hosts_below count m) 1) (sym hosts)
+    (subst (λ (u : WorldState). CanInstall u (hosts_in w m) 1) (sym same)
+    (adopted-installable n w mapper routes (hosts_in w m) 1 reached may idle (kept-rise (fabric_of w) l k) (kept-named (fabric_of w) l k) (omega arith) (omega arith)))
 
 -- what holds of a result that is no error holds where the error became another
 pub accepted : {T E D : Type 0} → (r : Result T E) (q : Result T D) (x : T) (P : Type 0) → is_ok q ≡ is_ok r → q ≡ Ok x → OnOk r P → P
@@ -103,3 +111,11 @@ accepted (Err e) q x P same is p = absurd (true≢false (sym (ap is_ok is) ∙ s
 pub unrefused : {T V E D : Type 0} → (r : Result T (V × E)) (q : Result T D) (x : T) (refusal : Option E) (e : E) (v : V) → is_ok q ≡ is_ok r → q ≡ Ok x → HandsBack refusal e v r → refusal ≡ None
 unrefused (Ok y) q x refusal e v same is p = p
 unrefused (Err a) q x refusal e v same is p = absurd (true≢false (sym (ap is_ok is) ∙ same))
+
+-- routes that a world doesn't refuse may be adopted
+pub may-be : (w : WorldState) (routes : List Route) → adopt_refusal (standing_of w) routes w.adopted ≡ None → may_adopt w routes ≡ true
+may-be w routes e = sym (refused_exactly (standing_of w) routes w.adopted) ∙ ap (λ (o : Option AdoptRefusal). is_none o) e
+
+-- the fabric after the changes so far is the one that stands
+pub stands-now : (w : WorldState) (k : ℕ) → IsMoment w → k ≡ w.links.cables.changes → fabric_at w.links.cables k ≡ fabric_of w
+stands-now w k now same = last_is_now w.links.cables k now.history (omega (arith, same))

@@ -13,7 +13,7 @@ ghost use Rattle.cable_history.specs.History.{fabric_at};
 ghost use Rattle.link_defs.specs.Links.{is_idle};
 ghost use Rattle.world_defs.specs.World.{fabric_of, host_count};
 ghost use Rattle.fab_world.specs.Events.{IsGiven};
-ghost use Rattle.run_session.specs.Kept.{IsKeptMap};
+ghost use Rattle.route_making.specs.Kept.{IsKeptMap};
 
 use anyhow::{Context, Result, bail};
 use fab_world::{Effect, Event, Said, World};

@@ -1,4 +1,5 @@
 pub mod Addresses
+pub mod Adoptable
 mod Few
 mod Lines
 pub mod Naming

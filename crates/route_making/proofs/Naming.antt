@@ -37,11 +37,11 @@ host-below f h (Switch s ∷ vs) all e = host-below f h vs all.1 e
 of-fabric : (f : Network) (m : NetMap) (h : ℕ) → AreOfFabric f m → is_some (vertex_of_host m h) ≡ true → h < length f.hosts
 of-fabric f m h all e = host-below f h m.vertices all (sym (position-any (is_host_named h) m.vertices) ∙ e)
 
-ends-there : (o : Option ℕ) (at : MapPort) → option_map (λ v. record { v = v; p = pos 0 }) o ≡ Some at → is_some o ≡ true
+pub ends-there : (o : Option ℕ) (at : MapPort) → option_map (λ v. record { v = v; p = pos 0 }) o ≡ Some at → is_some o ≡ true
 ends-there None at e = cc
 ends-there (Some v) at e = refl
 
-begins-there : (m : NetMap) (o : Option ℕ) (turns : List ℤ) (at : MapPort) → led_to m (option_map (λ v. record { v = v; p = pos 0 }) o) turns ≡ Some at → is_some o ≡ true
+pub begins-there : (m : NetMap) (o : Option ℕ) (turns : List ℤ) (at : MapPort) → led_to m (option_map (λ v. record { v = v; p = pos 0 }) o) turns ≡ Some at → is_some o ≡ true
 begins-there m None turns at e = cc
 begins-there m (Some v) turns at e = refl
 

@@ -1,7 +1,7 @@
 //! The routes of a complete map, and what is printed of them.
 //!
 //! It makes no map and installs no route. `specs/Run.antt` of `run_defs` says which lines there are, and
-//! `specs/LineText.antt` there what text they have.
+//! `specs/LineText.antt` there what text they have; `specs/Kept.antt` which maps routes are computed of.
 //!
 //! ```text
 //!   map --> orientation --> routes --+
@@ -14,11 +14,14 @@
 //! | `making` | the routes of a map with their text |
 //! | `printing` | the lines of routes and ranks |
 //! | `hosts` | the hosts of a map by address |
+//! | `laws` | that its routes may be adopted, and are of its hosts |
 #![tactic(auto)]
 
 mod hosts;
+mod laws;
 mod making;
 mod printing;
 
 pub use hosts::hosts_of_map;
+pub use laws::routes_of_kept_maps;
 pub use making::{MadeRoutes, make_routes};

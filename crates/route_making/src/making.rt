@@ -4,7 +4,7 @@ ghost use Rattle.std.specs.Prelude.{◌≡◌, ◌≤◌, length, IfOk};
 ghost use Rattle.map_defs.specs.NetMap.{IsConnected, switches_of};
 ghost use Rattle.map_defs.specs.Orientation.{order_of};
 ghost use Rattle.map_defs.specs.Routing.{AreRoutesOf};
-ghost use Rattle.map_defs.specs.Ranks.{ranks_of};
+ghost use Rattle.map_defs.specs.Ranks.{IsCertificate, ranks_of};
 ghost use Rattle.map_canon.specs.Printing.{AreOfFabric};
 ghost use Rattle.run_defs.specs.Output.{lines};
 ghost use Rattle.run_defs.specs.Run.{routes_lines};
@@ -29,12 +29,14 @@ pub struct MadeRoutes {
 }
 
 /// The routes of a connected map, whose hosts are hosts of a fabric: for each two the least legal one. They are
-/// printed with the fabric's names, and only after the check that the ranks rise along each of them.
+/// printed with the fabric's names, and only after the check of the ranks that are printed with them (`certified`):
+/// each channel of a route has one, and they rise along each route.
 pub fn make_routes(alloc: Global, m: &FabricMap, f: &Fabric) -> Result<MadeRoutes, AllocError>
     requires connected { IsConnected m.now }
     requires few { length (switches_of m.now.vertices) ≤ 64 }
     requires hosts { AreOfFabric f.now m.now }
     ensures routes { IfOk result (λ made. AreRoutesOf m.now (order_of m.now) made.set) }
+    ensures certified { IfOk result (λ made. IsCertificate m.now made.set (ranks_of m.now (order_of m.now))) }
     ensures text { IfOk result (λ made. made.printed ≡ printed_of f.now (lines (routes_lines m.now made.set))) }
 {
     let (set, ranks) = certified_routes(alloc, m)?;
@@ -49,6 +51,7 @@ fn certified_routes(alloc: Global, m: &FabricMap) -> Result<(RouteSet, Ranks), A
     requires few { length (switches_of m.now.vertices) ≤ 64 }
     ensures routes { IfOk result (λ made. AreRoutesOf m.now (order_of m.now) made.0) }
     ensures ranks { IfOk result (λ made. made.1 ≡ ranks_of m.now (order_of m.now)) }
+    ensures certified { IfOk result (λ made. IsCertificate m.now made.0 made.1) }
 {
     let o = orient(alloc, m)?;
     let set = routes(alloc, m, &o)?;

@@ -9,7 +9,8 @@ use Rattle.run_defs.specs.declared.command.Command.TheVariants.{Duo}
 use Rattle.run_defs.specs.declared.line.Line.TheVariants.{Duo as DuoLine}
 use Rattle.run_defs.specs.Duos.{begun, beside, IsOther}
 use Rattle.run_defs.specs.Output.{OneLine}
-use Rattle.run_defs.specs.Run.{Does}
+use Rattle.run_defs.proofs.Doing.{does}
+use Rattle.run_defs.proofs.Doing.Doing.{determined}
 use Rattle.run_defs.specs.Session.{SessionState}
 use Rattle.fab_report.specs.Printed.{PrintedState}
 use Rattle.fab_script.specs.Ranges.{IsDuoOf}
@@ -36,13 +37,13 @@ duo_obeyed s e after p done =
     let out = OneLine (DuoLine (duo_step (begun s.duo) e).0) ∷ [] in
     record {
       output = out;
-      does = Does.determined (ap (λ (o : Option DuoState). Some (record { output = out; after = beside s o })) (sym done.stepped));
+      does = does (determined (ap (λ (o : Option DuoState). Some (record { output = out; after = beside s o })) (sym done.stepped)));
       printed = done.printed;
     }
 
 -- it has no act of the world
 pub duo_cut : (s : SessionState) (e : DuoEvent) (v : WorldState) → v ≡ s.world → IsCutShort s (Duo e) v
-duo_cut s e v same = cut_unchanged s (Duo e) v (λ host depth tries p. cc) same
+duo_cut s e v same = cut_unchanged s (Duo e) v same
 
 -- what is left of them where memory runs out
 pub duo_left : (s : SessionState) (e : DuoEvent) (after : Option DuoState) → IsDuoCut e s.duo after → IsDuoLeft s (Duo e) after
@@ -50,7 +51,7 @@ duo_left s e after (kept same) = left_kept same
 duo_left s e after (begins none new) = left_new e refl none new
 duo_left s e after (stepped led) =
     let next : SessionState = beside s (Some (duo_step (begun s.duo) e).1) in
-    left_stepped e (OneLine (DuoLine (duo_step (begun s.duo) e).0) ∷ []) next refl (Does.determined refl) led
+    left_stepped e (OneLine (DuoLine (duo_step (begun s.duo) e).0) ∷ []) next refl (does (determined refl)) led
 
 -- an event of a script is of one of the two hosts
 pub event_is_fair : (e : DuoEvent) → IsDuoOf e → IsFair e

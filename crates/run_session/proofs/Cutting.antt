@@ -27,7 +27,7 @@ IsBusy w c = (host depth tries : ℕ) → c ≡ Map host depth tries → is_idle
 
 -- a command of one event at most
 pub cut_one : (w v : WorldState) (made : Option LastMap) (found : Option LastRoutes) (c : Command) → IsBusy w c → (e : OutOfMemory) → IsLeft c w v e → IsCutShort (session_of w made found) c v
-cut_one w v made found c busy InDoing (undone same kept) = cut_unchanged (session_of w made found) c v busy same
+cut_one w v made found c busy InDoing (undone same kept) = cut_unchanged (session_of w made found) c v same
 cut_one w v made found c busy InLine (unprinted told done) =
     let o : Outcome = record { output = done.output; after = session_of v made found } in
     cut_done (session_of w made found) c o v (done.determined made found) refl

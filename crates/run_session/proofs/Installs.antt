@@ -13,22 +13,23 @@ use Rattle.world_defs.specs.Table.{Adoption}
 use Rattle.world_defs.specs.EightBits.{IsByteEvent}
 use Rattle.world_defs.specs.Logs as log
 use Rattle.world_defs.specs.Row.{IsPartWay}
-use Rattle.world_defs.specs.Log.{came_to}
 use Rattle.world_defs.proofs.LogRows.{install-row, byte_asks}
-use Rattle.act_defs.specs.Acts.{IsReached}
+use Rattle.act_defs.specs.Acts.{acted_all, IsReached}
 use Rattle.install_laws.proofs.Epochs.{adopted-unrevoked}
 use Rattle.table_installing.specs.Installing.{IsUnrevoked, IsUnchanged}
-use Rattle.table_installing.proofs.Causes.{adopted-unchanged}
+use Rattle.table_installing.proofs.Adoptions.{adopted-unchanged, accepted-idle}
 use Rattle.run_defs.specs.declared.command.Command.TheVariants.{Install}
 use Rattle.run_defs.specs.declared.line.Line.TheVariants.{Installed, InstallRefused}
 use Rattle.run_defs.specs.declared.line.InstallCause.{InstallCause}
 use Rattle.run_defs.specs.declared.line.InstallCause.TheVariants.{NoRoutes, Busy, Changed}
-use Rattle.run_defs.specs.Output.{OneLine, lines}
-use Rattle.run_defs.specs.Outcome.{Outcome, says, set_of, adopt_cause, may_install, refusal_cause, install, install_now, says_only, table_line}
-use Rattle.run_defs.specs.Run.{Does}
+use Rattle.run_defs.specs.Output.{Piece, OneLine, lines}
+use Rattle.run_defs.specs.Deed.{Deed, says, session_after}
+use Rattle.run_defs.specs.Outcome.{set_of, adopt_cause, installation, may_install, refusal_cause, install, install_now, table_line}
+use Rattle.run_defs.proofs.Doing.{acted-installation}
+use Rattle.run_defs.proofs.ByKind.{by-install}
+use Rattle.run_defs.specs.Run.{IsDeed}
 use Rattle.run_defs.specs.Session.{SessionState, LastMap, LastRoutes}
 use Rattle.fab_report.specs.Printed.{PrintedState, printed_of}
-use Rattle.promise_laws.specs.CommandActs.{install_acts}
 use Rattle.promise_laws.specs.CutShort.{IsPartActed}
 use Rattle.promise_laws.proofs.CutShort.{part-installed, way-whole}
 use Rattle.world_commands.specs.Done.{session_of}
@@ -36,29 +37,25 @@ use Rattle.run_session.specs.Obeyed.{IsObeyed}
 use Rattle.run_session.specs.Told.{IsOfLast, AreInstalledTold, IsInstallTold}
 use Rattle.run_session.proofs.Going.{goes_pulled, printed-on}
 
--- an installation whose outcome says one line alone
-refused : (w : WorldState) (last : Option LastRoutes) (tries : ℕ) (cause : InstallCause) (p : PrintedState) → ((made : Option LastMap) → install (session_of w made last) tries last ≡ says_only (session_of w made last) (InstallRefused cause ∷ [])) → p ≡ printed_of (fabric_of w) (OneLine (InstallRefused cause) ∷ []) → IsInstallTold w last tries w p
+-- an installation that is refused
+refused : (w : WorldState) (last : Option LastRoutes) (tries : ℕ) (cause : InstallCause) (p : PrintedState) → install w tries last ≡ says (InstallRefused cause ∷ []) → p ≡ printed_of (fabric_of w) (OneLine (InstallRefused cause) ∷ []) → IsInstallTold w last tries w p
 refused w last tries cause p is e = record {
-  printed = λ made. e ∙ sym (ap (λ (o : Outcome). printed_of (fabric_of w) o.output) (is made));
-  left = λ made. ap (λ (o : Outcome). o.after) (is made);
+  printed = e ∙ sym (ap (λ (d : Deed). printed_of (fabric_of w) d.output) is);
+  left = ap (λ (d : Deed). acted_all w d.acts) (sym is);
 }
 
 pub none_told : (w : WorldState) (tries : ℕ) (p : PrintedState) → p ≡ printed_of (fabric_of w) (OneLine (InstallRefused NoRoutes) ∷ []) → IsInstallTold w None tries w p
-none_told w tries p e = refused w None tries NoRoutes p (λ made. refl) e
-
--- what is printed of a count, and the session then
-abbrev of_count : SessionState → List ℕ → ℕ × WorldState → Outcome
-of_count s hosts (acked, w) = says s (Installed acked (length hosts) ∷ map (table_line w) hosts) w
+none_told w tries p e = refused w None tries NoRoutes p refl e
 
 -- what comes of last routes, by whether a channel holds a packet, whether they may be installed, and why not
-abbrev pub choice : SessionState → LastRoutes → ℕ → Bool → Bool → InstallCause → Outcome
-choice s l tries idle may cause =
-    if not idle then says_only s (InstallRefused Busy ∷ [])
-    else if not may then says_only s (InstallRefused cause ∷ [])
-    else install_now s l tries
+abbrev pub choice : WorldState → LastRoutes → ℕ → Bool → Bool → InstallCause → Deed
+choice w l tries idle may cause =
+    if not idle then says (InstallRefused Busy ∷ [])
+    else if not may then says (InstallRefused cause ∷ [])
+    else install_now w l tries
 
 pub busy_told : (w : WorldState) (l : LastRoutes) (tries : ℕ) (p : PrintedState) → is_idle w.links ≡ false → p ≡ printed_of (fabric_of w) (OneLine (InstallRefused Busy) ∷ []) → IsInstallTold w (Some l) tries w p
-busy_told w l tries p busy e = refused w (Some l) tries Busy p (λ made. ap (λ b. choice (session_of w made (Some l)) l tries b (may_install w l) (refusal_cause w l)) busy) e
+busy_told w l tries p busy e = refused w (Some l) tries Busy p (ap (λ b. choice w l tries b (may_install w l) (refusal_cause w l)) busy) e
 
 -- the last routes may not be installed, and why; or they may
 pub why-not : {may : Bool} {why cause : InstallCause} {r : Option InstallCause} → r ≡ (if may then None else Some why) → r ≡ Some cause → (may ≡ false) × (cause ≡ why)
@@ -74,7 +71,7 @@ pub refused_told : (w : WorldState) (l : LastRoutes) (tries : ℕ) (cause : Inst
 refused_told w l tries cause r p idle told is e =
     let why : (may_install w l ≡ false) × (cause ≡ refusal_cause w l) = why-not told is in
     refused w (Some l) tries (refusal_cause w l) p
-    (λ made. ap (λ b. choice (session_of w made (Some l)) l tries b (may_install w l) (refusal_cause w l)) idle ∙ ap (λ b. choice (session_of w made (Some l)) l tries true b (refusal_cause w l)) why.0)
+    (ap (λ b. choice w l tries b (may_install w l) (refusal_cause w l)) idle ∙ ap (λ b. choice w l tries true b (refusal_cause w l)) why.0)
     (e ∙ ap (λ k. printed_of (fabric_of w) (OneLine (InstallRefused k) ∷ [])) why.1)
 
 -- routes that may be installed are of the fabric as it stands, and may be adopted
@@ -106,21 +103,25 @@ adopted-now s false = refl
 
 pub installed_told : (w mid after : WorldState) (l : LastRoutes) (tries : ℕ) (p : PrintedState) → is_idle w.links ≡ true → may_install w l ≡ true → mid ≡ adopted_by w l.mapper l.routes → AreInstalledTold (set_of w l) mid l tries after p → IsInstallTold w (Some l) tries after p
 installed_told w mid after l tries p idle may is told = record {
-  printed = λ made. told.printed ∙ ap (λ (v : WorldState). printed_of (fabric_of v) (done made).output) is ∙ ap (λ n. printed_of n (done made).output) (adopted-now w.links (keeps_epoch w l.routes)) ∙ sym (ap (λ (o : Outcome). printed_of (fabric_of w) o.output) (all made));
-  left = λ made. ap (λ (o : Outcome). o.after) (all made);
+  printed = told.printed
+      ∙ ap (λ (v : WorldState). printed_of (fabric_of v) out) is
+      ∙ ap (λ n. printed_of n out) (adopted-now w.links (keeps_epoch w l.routes))
+      ∙ (λ i. printed_of (fabric_of w) (lines (Installed (counted i) (length l.hosts) ∷ map (table_line (led i)) l.hosts)))
+      ∙ sym (ap (λ (d : Deed). printed_of (fabric_of w) d.output) all);
+  left = led ∙ sym (acted-installation w l tries) ∙ sym (ap (λ (d : Deed). acted_all w d.acts) all);
 }
   where
-    done : Option LastMap → Outcome
-    done made = of_count (session_of w made (Some l)) l.hosts (told.acked, after)
+    out : List Piece
+    out = lines (Installed told.acked (length l.hosts) ∷ map (table_line after) l.hosts)
 
-    counted : came_to (log.install (set_of w l) l.hosts tries (adopted_by w l.mapper l.routes)) ≡ (told.acked, after)
-    counted = ap (λ v. came_to (log.install (set_of w l) l.hosts tries v)) (sym is) ∙ (λ i. (sym told.counted i, sym told.led i))
+    counted : told.acked ≡ (installation w l tries).value
+    counted = told.counted ∙ ap (λ v. (log.install (set_of w l) l.hosts tries v).value) is
 
-    all : (made : Option LastMap) → install (session_of w made (Some l)) tries (Some l) ≡ done made
-    all made =
-        ap (λ b. choice (session_of w made (Some l)) l tries b (may_install w l) (refusal_cause w l)) idle
-        ∙ ap (λ b. choice (session_of w made (Some l)) l tries true b (refusal_cause w l)) may
-        ∙ ap (of_count (session_of w made (Some l)) l.hosts) counted
+    led : after ≡ (installation w l tries).world
+    led = told.led ∙ ap (λ v. (log.install (set_of w l) l.hosts tries v).world) is
+
+    all : install w tries (Some l) ≡ install_now w l tries
+    all = ap (λ b. choice w l tries b (may_install w l) (refusal_cause w l)) idle ∙ ap (λ b. choice w l tries true b (refusal_cause w l)) may
 
 -- the set that was adopted
 now-adopted : (w mid : WorldState) (l : LastRoutes) → mid ≡ adopted_by w l.mapper l.routes → mid.adopted ≡ Some (set_of w l)
@@ -132,11 +133,7 @@ pub adopted-told : {E : Type 0} → (w mid after : WorldState) (l : LastRoutes) 
 adopted-told w mid after l tries (Ok p) idle may there made = installed_told w mid after l tries p idle may there (made (set_of w l) (now-adopted w mid l there))
 adopted-told w mid after l tries (Err e) idle may there made = tt
 
--- an epoch that begins puts no packet into a channel
-pub accepted-idle : (s : LinkState) (b : Bool) → is_idle (if b then s else accept s) ≡ is_idle s
-accepted-idle s true = refl
-accepted-idle s false = refl
-
+-- nor does an adoption put a packet into a channel
 pub adopted-idle : (w mid : WorldState) (l : LastRoutes) → is_idle w.links ≡ true → mid ≡ adopted_by w l.mapper l.routes → is_idle mid.links ≡ true
 adopted-idle w mid l idle there = ap (λ v. is_idle v.links) there ∙ accepted-idle w.links (keeps_epoch w l.routes) ∙ idle
 
@@ -169,14 +166,18 @@ counted-told w after l a tries acked total hosts p adopted counted led all same 
       ∙ ap (λ (hs : List ℕ). printed_of (fabric_of w) (lines (Installed acked (length hs) ∷ map (table_line after) hs))) same;
 }
 
+-- an installation leaves all but the world
+install-leaves : (s : SessionState) (tries : ℕ) (o : Option LastRoutes) → session_after s (install s.world tries o) ≡ record s { world = acted_all s.world (install s.world tries o).acts }
+install-leaves s tries o = by-install (λ (d : Deed). session_after s d ≡ record s { world = acted_all s.world d.acts }) s.world tries o (λ cause. refl) (λ l are may. refl)
+
 -- the command was obeyed
 pub installed_so : (w v : WorldState) (made : Option LastMap) (found : Option LastRoutes) (tries : ℕ) (p : PrintedState) → IsInstallTold w found tries v p → IsObeyed (session_of w made found) (Install tries) (session_of v made found) p
 installed_so w v made found tries p told =
-    let done : Outcome = install (session_of w made found) tries found in
+    let d : Deed = install w tries found in
     record {
-      output = done.output;
-      does = Does.determined (ap (λ (t : SessionState). Some (record { output = done.output; after = t })) (told.left made));
-      printed = told.printed made;
+      output = d.output;
+      does = record { deed = d; is = IsDeed.determined refl; prints = refl; leaves = ap (λ u. session_of u made found) told.left ∙ sym (install-leaves (session_of w made found) tries found) };
+      printed = told.printed;
     }
 
 -- an installation of adopted routes that ran out of memory, or was made and its text ran out of it, is part of the way along its events
@@ -192,6 +193,6 @@ installed-whole w after l a tries hosts adopted led same =
 
 -- an installation of the last routes that ran out of memory
 pub cut-by : {A E : Type 0} (r : Result A E) (w mid v : WorldState) (l : LastRoutes) (tries : ℕ) → is_idle w.links ≡ true → may_install w l ≡ true → mid ≡ adopted_by w l.mapper l.routes
-    → ((a : Adoption) → mid.adopted ≡ Some a → OnErr r (IsPartWay mid (log.install a l.hosts tries mid).events v)) → OnErr r (IsPartActed w (install_acts w tries (Some l)) v)
+    → ((a : Adoption) → mid.adopted ≡ Some a → OnErr r (IsPartWay mid (log.install a l.hosts tries mid).events v)) → OnErr r (IsPartActed w (install w tries (Some l)).acts v)
 cut-by (Ok p) w mid v l tries idle may there way = tt
 cut-by (Err e) w mid v l tries idle may there way = part-installed w mid v l tries idle (ap not may) there (way (set_of w l) (now-adopted w mid l there))

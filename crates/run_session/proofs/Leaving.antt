@@ -1,5 +1,5 @@
 -- Where memory runs out in a session no refusal is hidden: a refused command lacks only its line's text.
-use Rattle.std.proofs.Common.{◌≡◌, ℕ, List, ◌∷◌, [], true, false, Option, Some, None, option_map, refl, sym, ◌∙◌, ap, if◌then◌else◌}
+use Rattle.std.proofs.Common.{◌≡◌, ℕ, List, ◌∷◌, [], map, true, false, Option, Some, None, option_map, refl, sym, ◌∙◌, ap, if◌then◌else◌}
 use Rattle.std.specs.Prelude.{min, length}
 use Rattle.link_defs.specs.Links.{is_idle}
 use Rattle.duo_defs.specs.declared.effect.DuoEffect.{DuoEffect}
@@ -16,9 +16,13 @@ use Rattle.run_defs.specs.declared.line.Line.TheVariants.{MapBusy, NoMap, Instal
 use Rattle.run_defs.specs.declared.line.InstallCause.TheVariants.{NoRoutes, Busy}
 use Rattle.run_defs.specs.Duos.{begun, beside, IsOther}
 use Rattle.run_defs.specs.Output.{OneLine}
-use Rattle.run_defs.specs.Outcome.{Outcome, says_only, settled, installation, install_done, may_install, refusal_cause, routes_refused, duo_done, outcome}
+use Rattle.act_defs.specs.Acts.{Happens, acted_all}
+use Rattle.run_defs.specs.Deed.{Deed, says}
+use Rattle.run_defs.specs.Outcome.{Outcome, settle_lines, installation, may_install, refusal_cause, happening, install_now, routes_refused, duo_done, kind_of, deed_of, seen, outcome}
+use Rattle.run_defs.specs.Run.{IsDeed}
+use Rattle.run_defs.proofs.Doing.{acted-settle}
 use Rattle.run_defs.specs.Session.{SessionState, LastMap, LastRoutes, complete_map}
-use Rattle.promise_laws.proofs.Duos.{with-duo, outcome-beside}
+use Rattle.promise_laws.proofs.Duos.{IsOtherDeed, other-kind, other-deed, kind-beside, noted-beside}
 use Rattle.world_commands.specs.declared.out_of_memory.OutOfMemory.{OutOfMemory}
 use Rattle.world_commands.specs.declared.out_of_memory.OutOfMemory.TheVariants.{InDoing, InLine}
 use Rattle.world_commands.specs.Cut.{is_refusal_line, IsRefused, HidesNoRefusal, IsLeft}
@@ -49,75 +53,102 @@ one-unrefused w v made found c InLine (unprinted told done) = (record { output =
 pub busy-missing : (w : WorldState) (made : Option LastMap) (found : Option LastRoutes) (c : Command) (host depth tries : ℕ) → c ≡ Map host depth tries → IsBusy w c → HidesNoRefusal (session_of w made found) c w InLine
 busy-missing w made found c host depth tries is busy =
     let s : SessionState = session_of w made found in
-    let o : Outcome = says_only s (MapBusy host ∷ []) in
-    (o, ap (outcome s) is ∙ ap (λ b. if b then None else Some o) (busy host depth tries is), refl)
+    let o : Outcome = seen s (says (MapBusy host ∷ [])) in
+    (o, ap (outcome s) is ∙ ap (λ b. option_map (seen s) (if b then None else Some (says (MapBusy host ∷ [])))) (busy host depth tries is), refl)
 
 pub map-unrefused : (w v : WorldState) (made : Option LastMap) (found : Option LastRoutes) (c : Command) (order : MapOrder) → c ≡ map_of order → is_idle w.links ≡ true → HidesNoRefusal (session_of w made found) c v InDoing
 map-unrefused w v made found c order is idle =
     let s : SessionState = session_of w made found in
-    none-unrefused s c v (ap (outcome s) is ∙ ap (λ b. if b then None else Some (says_only s (MapBusy order.host ∷ []))) idle)
+    none-unrefused s c v (ap (outcome s) is ∙ ap (λ b. option_map (seen s) (if b then None else Some (says (MapBusy order.host ∷ [])))) idle)
 
 -- routes
 pub routes-unrefused : (s : SessionState) (l : LastMap) (v : WorldState) → complete_map s.last_map ≡ Some l → HidesNoRefusal s Routes v InDoing
-routes-unrefused s l v is = none-unrefused s Routes v (ap (routes_refused s) is)
+routes-unrefused s l v is = none-unrefused s Routes v (ap (λ o. option_map (seen s) (routes_refused o)) is)
 
 pub no-map-missing : (s : SessionState) → complete_map s.last_map ≡ None → HidesNoRefusal s Routes s.world InLine
-no-map-missing s none = (says_only s (NoMap ∷ []), ap (routes_refused s) none, refl)
+no-map-missing s none = (seen s (says (NoMap ∷ [])), ap (λ o. option_map (seen s) (routes_refused o)) none, refl)
 
 -- a settle
 pub settle-unrefused : (s : SessionState) (v : WorldState) → HidesNoRefusal s Settle v InDoing
 settle-unrefused s v =
     let l : Log log.Rounds = log.settle s.world in
-    not-refused s (settled s l).after Settle (SettleLine l.value.rounds (min l.value.resets last_count) (unacknowledged_in l.world)) refl refl
+    not-refused s (record s { world = acted_all s.world (map Happens l.events) }) Settle (SettleLine l.value.rounds (min l.value.resets last_count) (unacknowledged_in l.world)) refl refl
 
 pub settle-missing : (s : SessionState) (v : WorldState) → v ≡ (log.settle s.world).world → HidesNoRefusal s Settle v InLine
-settle-missing s v same = (settled s (log.settle s.world), refl, same)
+settle-missing s v same = (seen s (happening (log.settle s.world).events (settle_lines (log.settle s.world))), refl, same ∙ sym (acted-settle s.world))
 
 -- an installation
 pub no-routes-missing : (w : WorldState) (last : Option LastRoutes) (tries : ℕ) → last ≡ None → (made : Option LastMap) → HidesNoRefusal (session_of w made last) (Install tries) w InLine
-no-routes-missing w None tries none made = (says_only (session_of w made None) (InstallRefused NoRoutes ∷ []), refl, refl)
+no-routes-missing w None tries none made = (seen (session_of w made None) (says (InstallRefused NoRoutes ∷ [])), refl, refl)
 no-routes-missing w (Some l) tries none made = cc
 
 pub busy-install-missing : (w : WorldState) (l : LastRoutes) (tries : ℕ) → is_idle w.links ≡ false → (made : Option LastMap) → HidesNoRefusal (session_of w made (Some l)) (Install tries) w InLine
 busy-install-missing w l tries busy made =
     let s : SessionState = session_of w made (Some l) in
-    (says_only s (InstallRefused Busy ∷ []), ap (λ b. Some (choice s l tries b (may_install w l) (refusal_cause w l))) busy, refl)
+    (seen s (says (InstallRefused Busy ∷ [])), ap (λ b. Some (seen s (choice w l tries b (may_install w l) (refusal_cause w l)))) busy, refl)
 
 pub refused-missing : (w : WorldState) (l : LastRoutes) (tries : ℕ) → is_idle w.links ≡ true → may_install w l ≡ false → (made : Option LastMap) → HidesNoRefusal (session_of w made (Some l)) (Install tries) w InLine
 refused-missing w l tries idle may made =
     let s : SessionState = session_of w made (Some l) in
-    (says_only s (InstallRefused (refusal_cause w l) ∷ []), ap (λ b. Some (choice s l tries b (may_install w l) (refusal_cause w l))) idle ∙ ap (λ b. Some (choice s l tries true b (refusal_cause w l))) may, refl)
+    (seen s (says (InstallRefused (refusal_cause w l) ∷ [])), ap (λ b. Some (seen s (choice w l tries b (may_install w l) (refusal_cause w l)))) idle ∙ ap (λ b. Some (seen s (choice w l tries true b (refusal_cause w l)))) may, refl)
 
 -- what is printed of a count is no refusal
-counted-unrefused : (s : SessionState) (c : Command) (hosts : List ℕ) (l : Log ℕ) → outcome s c ≡ Some (install_done s hosts l) → IsRefused s c → ⊥
-counted-unrefused s c hosts l is r =
-    let same : Installed l.value (length hosts) ≡ r.line = ap (λ o. first-line (output-of o)) (sym is ∙ r.prints) in
+counted-unrefused : (s : SessionState) (c : Command) (l : LastRoutes) (tries : ℕ) → outcome s c ≡ Some (seen s (install_now s.world l tries)) → IsRefused s c → ⊥
+counted-unrefused s c l tries is r =
+    let same : Installed (installation s.world l tries).value (length l.hosts) ≡ r.line = ap (λ o. first-line (output-of o)) (sym is ∙ r.prints) in
     let bad : false ≡ true = ap is_refusal_line same ∙ r.refuses in
     cc
 
 pub install-unrefused : (w v : WorldState) (l : LastRoutes) (tries : ℕ) → is_idle w.links ≡ true → may_install w l ≡ true → (made : Option LastMap) → HidesNoRefusal (session_of w made (Some l)) (Install tries) v InDoing
 install-unrefused w v l tries idle may made =
     let s : SessionState = session_of w made (Some l) in
-    counted-unrefused s (Install tries) l.hosts (installation s l tries)
-    (ap (λ b. Some (choice s l tries b (may_install w l) (refusal_cause w l))) idle ∙ ap (λ b. Some (choice s l tries true b (refusal_cause w l))) may)
+    counted-unrefused s (Install tries) l tries
+    (ap (λ b. Some (seen s (choice w l tries b (may_install w l) (refusal_cause w l)))) idle ∙ ap (λ b. Some (seen s (choice w l tries true b (refusal_cause w l)))) may)
 
 -- an event of the two hosts that restart
-duo-kept : (s : SessionState) (e : DuoEvent) (x : DuoEffect × DuoState) → outcome s (Duo e) ≡ Some (duo_done s x) → IsRefused s (Duo e) → ⊥
+duo-kept : (s : SessionState) (e : DuoEvent) (x : DuoEffect × DuoState) → outcome s (Duo e) ≡ Some (seen s (duo_done x)) → IsRefused s (Duo e) → ⊥
 duo-kept s e (effect, d) is = not-refused s (beside s (Some d)) (Duo e) (DuoLine effect) is refl
 
 pub duo-unrefused : (s : SessionState) (e : DuoEvent) (v : WorldState) → HidesNoRefusal s (Duo e) v InDoing
 duo-unrefused s e v = duo-kept s e (duo_step (begun s.duo) e) refl
 
 -- another command beside these two
-refused-alone : (s : SessionState) (c : Command) (d : Option DuoState) → outcome (beside s d) c ≡ option_map (with-duo d) (outcome s c) → IsRefused (beside s d) c → IsRefused s c
-refused-alone s c d is r = by (outcome s c) refl (sym is ∙ r.prints)
+abbrev with-duo : Option DuoState → Outcome → Outcome
+with-duo d o = record { output = o.output; after = beside o.after d }
+
+-- what it prints and does, where that is determined
+outcome-beside : (s : SessionState) (c : Command) (d : Option DuoState) (o : Outcome) → IsOther c → outcome s c ≡ Some o → outcome (beside s d) c ≡ Some (with-duo d o)
+outcome-beside s c d o other is = by (deed_of s c) refl is
   where
-    by : (o : Option Outcome) → outcome s c ≡ o → option_map (with-duo d) o ≡ Some (record { output = OneLine r.line ∷ []; after = r.after }) → IsRefused s c
+    by : (x : Option Deed) → deed_of s c ≡ x → option_map (seen s) x ≡ Some o → outcome (beside s d) c ≡ Some (with-duo d o)
     by None p q = cc
-    by (Some o) p q =
-        let same : o.output ≡ OneLine r.line ∷ [] = ap output-of q in
+    by (Some x) p q =
+        let same : seen s x ≡ o = cc in
+        let of_x : IsOtherDeed x = other-deed {s = s} {c = c} {d = x} other (IsDeed.determined p) in
+        ap (option_map (seen (beside s d))) (kind-beside s (kind_of c) d (other-kind c other) ∙ p)
+        ∙ ap (λ (t : SessionState). Some (record { output = x.output; after = t })) (sym (noted-beside (record s { world = acted_all s.world x.acts }) x.note d of_x))
+        ∙ ap (λ (y : Outcome). Some (with-duo d y)) same
+
+-- so one that is refused there is refused here
+none-alone : (s : SessionState) (c : Command) (d : Option DuoState) → IsOther c → IsRefused (beside s d) c → outcome s c ≡ None → ⊥
+none-alone s c d other r none = by (deed_of s c) refl none
+  where
+    by : (x : Option Deed) → deed_of s c ≡ x → option_map (seen s) x ≡ None → ⊥
+    by None p q =
+        let printed : [] ≡ OneLine r.line ∷ [] = ap output-of (sym (ap (option_map (seen (beside s d))) (kind-beside s (kind_of c) d (other-kind c other) ∙ p)) ∙ r.prints) in
+        cc
+    by (Some x) p q = cc
+
+refused-alone : (s : SessionState) (c : Command) (d : Option DuoState) → IsOther c → IsRefused (beside s d) c → IsRefused s c
+refused-alone s c d other r = by (outcome s c) refl
+  where
+    by : (o : Option Outcome) → outcome s c ≡ o → IsRefused s c
+    by None p = absurd (none-alone s c d other r p)
+    by (Some o) p =
+        let both = sym (outcome-beside s c d o other p) ∙ r.prints in
+        let same : o.output ≡ OneLine r.line ∷ [] = ap output-of both in
         record { line = r.line; after = o.after; prints = p ∙ ap (λ x. Some (record { output = x; after = o.after })) same; refuses = r.refuses }
 
 pub beside-unrefused : (s : SessionState) (c : Command) (v : WorldState) (d : Option DuoState) → IsOther c → (e : OutOfMemory) → HidesNoRefusal s c v e → HidesNoRefusal (beside s d) c v e
-beside-unrefused s c v d other InDoing kept = λ r. kept (refused-alone s c d (outcome-beside s c d other) r)
-beside-unrefused s c v d other InLine (o, is, same) = (with-duo d o, outcome-beside s c d other ∙ ap (option_map (with-duo d)) is, same)
+beside-unrefused s c v d other InDoing kept = λ r. kept (refused-alone s c d other r)
+beside-unrefused s c v d other InLine (o, is, same) = (with-duo d o, outcome-beside s c d o other is, same)

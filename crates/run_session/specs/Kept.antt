@@ -1,33 +1,11 @@
 -- What a session keeps of maps and routes: a last map that says complete was one to compute routes of, and the last
 -- routes were those of such a map, in the fabric as it stood when that map began.
-use Rattle.std.specs.Prelude.{◌≡◌, ℕ, ◌≤◌, length, Option, Some}
-use Rattle.net_defs.specs.Network.{Network}
+use Rattle.std.specs.Prelude.{◌≡◌, ℕ, ◌≤◌, Option, Some}
 use Rattle.cable_history.specs.History.{CableHistory, fabric_at}
-use Rattle.map_defs.specs.NetMap.{NetMap, IsMap, IsConnected, switches_of}
-use Rattle.map_defs.specs.Orientation.{order_of}
-use Rattle.map_defs.specs.Routing.{AreRoutesOf}
-use Rattle.map_defs.specs.Sameness.{IsMapOfPart}
 use Rattle.world_defs.specs.World.{WorldState}
 use Rattle.run_defs.specs.Session.{SessionState, LastMap, LastRoutes, complete_map}
-use Rattle.map_canon.specs.Printing.{AreOfFabric}
 use Rattle.promise_laws.specs.OneAction.{VerticesStay}
-use Rattle.route_making.specs.Listed.{map_hosts_below}
-
--- A map from a mapper that routes can be computed of: it is the mapper's part of the fabric, connected, and of no
--- more switches than a fabric has.
-pub record IsKeptMap (n : Network) (mapper : ℕ) (m : NetMap) : Type 0 where
-  pub rules : IsMap m
-  pub right : IsMapOfPart n mapper m
-  pub hosts : AreOfFabric n m
-  pub connected : IsConnected m
-  pub few : length (switches_of m.vertices) ≤ 64
-
--- Routes that were computed: they are those of such a map, with its hosts by address.
-pub record AreKeptRoutes (n : Network) (l : LastRoutes) : Type 0 where
-  pub made : NetMap
-  pub kept : IsKeptMap n l.mapper made
-  pub are : AreRoutesOf made (order_of made) l.routes
-  pub hosts : l.hosts ≡ map_hosts_below (length n.hosts) made
+pub use Rattle.route_making.specs.Kept.{IsKeptMap, AreKeptRoutes}
 
 -- A map was such a map of the fabric as it stood when it began.
 pub record WasKeptMap (h : CableHistory) (l : LastMap) : Type 0 where

@@ -7,6 +7,7 @@ use Rattle.map_defs.specs.Routing.{AreRoutesOf}
 use Rattle.world_defs.specs.Table.{Adoption}
 use Rattle.world_defs.specs.World.{WorldState, fabric_of}
 use Rattle.world_defs.specs.Logs as log
+use Rattle.act_defs.specs.Acts.{acted_all}
 use Rattle.run_defs.specs.declared.command.Command.{Command}
 use Rattle.run_defs.specs.declared.command.Command.TheVariants.{Map as MapCommand}
 use Rattle.run_defs.specs.declared.line.Line.TheVariants.{Installed}
@@ -18,7 +19,6 @@ use Rattle.run_defs.specs.Session.{LastMap, LastRoutes}
 use Rattle.fab_report.specs.Printed.{PrintedState, printed_of}
 use Rattle.map_making.specs.declared.making.MadeMap.{MadeMap}
 use Rattle.table_installing.specs.Installing.{IsUnrevoked, IsUnchanged}
-use Rattle.world_commands.specs.Done.{session_of}
 use Rattle.run_session.specs.declared.mapping.MapOrder.{MapOrder}
 
 -- the command that makes a map
@@ -62,10 +62,8 @@ pub record AreInstalledTold (a : Adoption) (w : WorldState) (l : LastRoutes) (tr
   pub printed : told ≡ printed_of (fabric_of w)
       (lines (Installed acked (length l.hosts) ∷ map (table_line after) l.hosts))
 
--- The last routes, where there are any, were installed over a world or that was refused, and it is reported: whatever
--- the last map, which stays as the routes do.
+-- The last routes, where there are any, were installed over a world or that was refused, and it is reported.
 pub record IsInstallTold (w : WorldState) (last : Option LastRoutes) (tries : ℕ) (after : WorldState)
     (told : PrintedState) : Type 0 where
-  pub printed : (made : Option LastMap) → told ≡ printed_of (fabric_of w)
-      (install (session_of w made last) tries last).output
-  pub left : (made : Option LastMap) → (install (session_of w made last) tries last).after ≡ session_of after made last
+  pub printed : told ≡ printed_of (fabric_of w) (install w tries last).output
+  pub left : after ≡ acted_all w (install w tries last).acts

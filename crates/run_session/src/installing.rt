@@ -7,13 +7,12 @@ ghost use Rattle.world_defs.specs.World.{fabric_of, may_adopt, adopted_by};
 ghost use Rattle.world_defs.specs.Logs as log;
 ghost use Rattle.world_defs.specs.Row.{IsPartWay};
 ghost use Rattle.run_defs.specs.Output.{OneLine};
-ghost use Rattle.run_defs.specs.Outcome.{adopt_cause, may_install, refusal_cause};
+ghost use Rattle.run_defs.specs.Outcome.{adopt_cause, install as install_deed, may_install, refusal_cause};
 ghost use Rattle.world_defs.specs.Table.{Adoption};
 ghost use Rattle.run_defs.specs.Session.{LastMap, LastRoutes};
 ghost use Rattle.run_defs.specs.declared.command.Command.TheVariants.{Install};
 ghost use Rattle.run_defs.specs.declared.line.Line.TheVariants.{InstallRefused};
 ghost use Rattle.fab_report.specs.Printed.{printed_of};
-ghost use Rattle.promise_laws.specs.CommandActs.{install_acts};
 ghost use Rattle.promise_laws.specs.CutShort.{IsPartActed};
 ghost use Rattle.world_commands.specs.Cut.{HidesNoRefusal};
 ghost use Rattle.world_commands.specs.Done.{session_of};
@@ -42,7 +41,7 @@ pub(crate) fn install_text(
     requires some { 1 ≤ tries }
     requires few { tries ≤ 8 }
     ensures told { IfOk result (λ p. IsInstallTold w.old last.now tries w.new p) }
-    ensures err { OnErr result (IsPartActed w.old (install_acts w.old tries last.now) w.new) }
+    ensures err { OnErr result (IsPartActed w.old (install_deed w.old tries last.now).acts w.new) }
     ensures unrefused { IfErr result (λ e. (made : Option LastMap)
         → HidesNoRefusal (session_of w.old made last.now) (Install tries) w.new e) }
     ensures cables { GoesOn w.old w.new }
@@ -65,7 +64,7 @@ fn install_last(
     requires some { 1 ≤ tries }
     requires few { tries ≤ 8 }
     ensures told { IfOk result (λ p. IsInstallTold w.old (Some l.now) tries w.new p) }
-    ensures err { OnErr result (IsPartActed w.old (install_acts w.old tries (Some l.now)) w.new) }
+    ensures err { OnErr result (IsPartActed w.old (install_deed w.old tries (Some l.now)).acts w.new) }
     ensures unrefused { IfErr result (λ e. (made : Option LastMap)
         → HidesNoRefusal (session_of w.old made (Some l.now)) (Install tries) w.new e) }
     ensures cables { GoesOn w.old w.new }
@@ -89,7 +88,7 @@ fn install_idle(
     requires some { 1 ≤ tries }
     requires few { tries ≤ 8 }
     ensures told { IfOk result (λ p. IsInstallTold w.old (Some l.now) tries w.new p) }
-    ensures err { OnErr result (IsPartActed w.old (install_acts w.old tries (Some l.now)) w.new) }
+    ensures err { OnErr result (IsPartActed w.old (install_deed w.old tries (Some l.now)).acts w.new) }
     ensures unrefused { IfErr result (λ e. (made : Option LastMap)
         → HidesNoRefusal (session_of w.old made (Some l.now)) (Install tries) w.new e) }
     ensures cables { GoesOn w.old w.new }
@@ -138,7 +137,7 @@ fn install_adoptable(
     requires some { 1 ≤ tries }
     requires few { tries ≤ 8 }
     ensures told { IfOk result (λ p. IsInstallTold w.old (Some l.now) tries w.new p) }
-    ensures err { OnErr result (IsPartActed w.old (install_acts w.old tries (Some l.now)) w.new) }
+    ensures err { OnErr result (IsPartActed w.old (install_deed w.old tries (Some l.now)).acts w.new) }
     ensures doing { IfErr result (λ e. e ≡ OutOfMemory.InDoing) }
     ensures cables { GoesOn w.old w.new }
 {

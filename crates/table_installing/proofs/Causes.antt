@@ -1,13 +1,12 @@
 -- What an installation shows of the hosts that it doesn't count.
-use Rattle.std.proofs.Common.{◌≡◌, ◌≢◌, ◌<◌, ◌≤◌, ℕ, Bool, true, false, true≢false, ◌||◌, nat_eq, List, Option, Some, None, refl, sym, ap, ◌∙◌, subst, arith, if◌then◌else◌}
+use Rattle.std.proofs.Common.{◌≡◌, ◌≢◌, ◌<◌, ◌≤◌, ℕ, true, false, true≢false, ◌||◌, nat_eq, List, Option, Some, None, sym, ap, ◌∙◌, subst, arith}
 use Rattle.std.specs.Prelude.{IfSome, IsSome}
 use Rattle.std.specs.List.{AllByRecursion, list_any}
 use Rattle.std.proofs.lemmas.Bool.Decides.{nat_tests}
 use Rattle.cable_history.specs.History.{fabric_at}
-use Rattle.link_defs.specs.Links.{LinkState, is_idle}
-use Rattle.link_defs.specs.Fault.{accept}
+use Rattle.link_defs.specs.Links.{is_idle}
 use Rattle.world_defs.specs.Table.{Adoption}
-use Rattle.world_defs.specs.World.{WorldState, last_count, keeps_epoch}
+use Rattle.world_defs.specs.World.{WorldState, last_count}
 use Rattle.world_defs.proofs.LogViews.{installed}
 use Rattle.act_defs.specs.Acts.{IsReached}
 use Rattle.install_laws.specs.Premises.{IsJoined, CanInstall}
@@ -15,7 +14,7 @@ use Rattle.install_laws.specs.Counts.{TellsCause}
 use Rattle.install_laws.proofs.Counting.{tells-cause}
 use Rattle.install_laws.proofs.Installing.{installing-idle}
 use Rattle.adopted_routes.specs.Adopting.{is_among, IsSetOfHosts}
-use Rattle.table_installing.specs.Installing.{IsUnrevoked, IsUnchanged, AdoptedIsUnchanged}
+use Rattle.table_installing.specs.Installing.{IsUnrevoked, IsUnchanged}
 use Rattle.table_installing.proofs.InstallHosts.{members}
 
 told-cause : (w u : WorldState) (hosts : List ℕ) (tries acked : ℕ) (a : Adoption) → CanInstall a hosts w → 1 ≤ tries → installed a hosts tries w ≡ (acked, u)
@@ -56,11 +55,3 @@ pub tells : (n : ℕ) (w u : WorldState) (hosts : List ℕ) (tries acked : ℕ) 
 tells n w u hosts tries acked None is reached set idle unrevoked unchanged named some told = tt
 tells n w u hosts tries acked (Some a) is reached set idle unrevoked unchanged named some told =
     λ left. told-cause w u hosts tries acked a (can_install n w hosts a is reached set idle unrevoked unchanged named) some told left
-
--- an adoption leaves the number of changes, which is the set's
-pub adopted-unchanged : AdoptedIsUnchanged
-adopted-unchanged w mapper routes = stays w.links (keeps_epoch w routes)
-  where
-    stays : (s : LinkState) (b : Bool) → (if b then s else accept s).cables.changes ≡ s.cables.changes
-    stays s true = refl
-    stays s false = refl

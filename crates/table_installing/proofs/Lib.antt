@@ -1,3 +1,4 @@
+pub mod Adoptions
 pub mod Causes
 pub mod Counts
 pub mod InstallHosts

@@ -45,6 +45,14 @@ pub record CanInstall (w : WorldState) (hosts : List ℕ) (tries : ℕ) : Type 0
   pub some : 1 ≤ tries
   pub few : tries ≤ 8
 
+-- so routes that were just adopted, while no packet was on its way, can be installed on the hosts that they name
+abbrev pub AdoptedCanBeInstalled : Type 0
+AdoptedCanBeInstalled =
+    (n : Network) (w : WorldState) (mapper : ℕ) (routes : List Route) (hosts : List ℕ) (tries : ℕ) → IsReached n w
+    → may_adopt w routes ≡ true → is_idle w.links ≡ true → AreHosts hosts
+    → ((h : ℕ) → list_any (nat_eq h) hosts ≡ is_among mapper routes h) → 1 ≤ tries → tries ≤ 8
+    → CanInstall (adopted_by w mapper routes) hosts tries
+
 -- the adopted routes have parts for a host's table
 abbrev pub has_parts : Option Adoption → ℕ → Bool
 has_parts o h = nat_lt 0 (part_count_for o h)

@@ -3,7 +3,7 @@ use Rattle.net_defs.specs.Network.{Network, IsFabric}
 use Rattle.cable_history.specs.History.{fabric_at}
 use Rattle.world_asking.specs.Prober.{WorldAsking, IsAsked}
 use Rattle.run_defs.specs.declared.line.MapWords.TheVariants.{Complete}
-use Rattle.run_session.specs.Kept.{IsKeptMap}
+use Rattle.route_making.specs.Kept.{IsKeptMap}
 use Rattle.library_example.proofs.Kept.{kept-map, asked-made}
 use Rattle.library_example.proofs.complete_map.Goals as goal
 

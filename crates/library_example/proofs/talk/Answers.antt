@@ -1,8 +1,8 @@
 use Rattle.std.proofs.Common.{◌≡◌, Result, Ok, IfOk, subst, sym}
 use Rattle.net_defs.specs.Network.{Network}
 use Rattle.cable_history.specs.History.{fabric_at}
-use Rattle.run_session.specs.Kept.{IsKeptMap}
-use Rattle.run_session.proofs.Going.{stands-now}
+use Rattle.route_making.specs.Kept.{IsKeptMap}
+use Rattle.library_example.proofs.Kept.{stands-now}
 use Rattle.library_example.proofs.talk.Goals as goal
 
 -- what holds of a result that is there holds of what it gives

@@ -1,4 +1,4 @@
-use Rattle.std.proofs.Common.{◌≡◌, ℕ, List, length, ap, sym, subst, ◌∙◌}
+use Rattle.std.proofs.Common.{◌≡◌, ℕ, List, length, ap, sym, subst, refl, ◌∙◌}
 use Rattle.std.proofs.lemmas.Bool.{false≢true}
 use Rattle.map_defs.specs.Orientation.{IsOrder, order_of}
 use Rattle.map_defs.specs.Ranks.{ranks_of}
@@ -22,3 +22,6 @@ unreachable-requires c =
       routes_of = c.in_ok-set.ensures;
       ranks_are = c.in_ok-ranks.ensures ∙ ap (ranks_of m) order;
     }))
+
+pub returns-clause-certified : goal.returns-clause-certified
+returns-clause-certified c = (c.in-Ok.ensures.certified.0 refl).1

@@ -1,7 +1,7 @@
 use Rattle.std.proofs.Common.{◌≡◌, ◌<◌, ◌≤◌, ◌^◌, List, length, sym, subst, ◌∙◌, arith}
 use Rattle.net_defs.specs.declared.route.Route.{Route}
 use Rattle.map_defs.specs.Orientation.{order_of}
-use Rattle.map_defs.specs.Ranks.{ranks_of}
+use Rattle.map_defs.specs.Ranks.{IsCertificate, ranks_of}
 use Rattle.route_making.specs.Listed.{AreBetweenHosts}
 use Rattle.route_making.proofs.Few.{few-routes}
 use Rattle.route_making.proofs.Lines.{parts-printed, whole-printed}
@@ -31,3 +31,6 @@ returns-clause-text c =
     let set : c.list.result.now ≡ c.in_ok-set.set = c.list.ensures.value in
     let ranks : c.list-2.result.now ≡ ranks_of m (order_of m) = c.list-2.ensures ∙ c.in_ok-set.ensures.ranks in
     c.in_ok-printed.ensures ∙ (λ i. parts-printed f m (set i) (ranks i)) ∙ whole-printed f m c.in_ok-set.set
+
+pub returns-clause-certified : goal.returns-clause-certified
+returns-clause-certified c = subst (IsCertificate c.args.m.now c.in_ok-set.set) c.in_ok-set.ensures.ranks c.in_ok-set.ensures.certified

@@ -23,13 +23,13 @@ pub do_one-requires-clause-one_event : goal.do_one-requires-clause-one_event
 do_one-requires-clause-one_event c = one-event c.args.c.now c.in_default.not-Walk c.in_default.not-Map c.in_default.not-Circuit c.in_default.not-Routes c.in_default.not-Install c.in_default.not-Settle c.in_default.not-Revoke c.requires.other
 
 pub returns-in-Map-clause-cut : goal.returns-in-Map-clause-cut
-returns-in-Map-clause-cut c = on-any c.busy_text.result (cut_unchanged (session_of c.args.w.now c.args.last_map.now c.args.last_routes.now) c.args.c.now c.args.w.now c.requires.busy refl)
+returns-in-Map-clause-cut c = on-any c.busy_text.result (cut_unchanged (session_of c.args.w.now c.args.last_map.now c.args.last_routes.now) c.args.c.now c.args.w.now refl)
 
 pub returns-in-Circuit-clause-cut : goal.returns-in-Circuit-clause-cut
-returns-in-Circuit-clause-cut c = on-any c.circuit.result (cut_unchanged (session_of c.args.w.now c.args.last_map.now c.args.last_routes.now) c.args.c.now c.args.w.now c.requires.busy refl)
+returns-in-Circuit-clause-cut c = on-any c.circuit.result (cut_unchanged (session_of c.args.w.now c.args.last_map.now c.args.last_routes.now) c.args.c.now c.args.w.now refl)
 
 pub returns-in-Routes-clause-cut : goal.returns-in-Routes-clause-cut
-returns-in-Routes-clause-cut c = on-any c.routes.result (cut_unchanged (session_of c.args.w.now c.args.last_map.now c.args.last_routes.now) c.args.c.now c.args.w.now c.requires.busy refl)
+returns-in-Routes-clause-cut c = on-any c.routes.result (cut_unchanged (session_of c.args.w.now c.args.last_map.now c.args.last_routes.now) c.args.c.now c.args.w.now refl)
 
 pub returns-in-Install-clause-cut : goal.returns-in-Install-clause-cut
 returns-in-Install-clause-cut c =

@@ -1,15 +1,18 @@
-use Rattle.std.proofs.Common.{◌≡◌, ◌∙◌, IfOk, OnErr, sym, ap, subst}
+use Rattle.std.proofs.Common.{◌≡◌, ◌∙◌, Option, IfOk, OnErr, sym, ap, subst}
 use Rattle.std.specs.Prelude.{IfErr}
 use Rattle.link_defs.specs.Links.{is_idle}
 use Rattle.world_defs.specs.World.{WorldState}
-use Rattle.run_defs.specs.Session.{SessionState}
+use Rattle.run_defs.specs.declared.command.Command.{Command}
+use Rattle.run_defs.specs.Session.{SessionState, LastRoutes}
 use Rattle.promise_laws.specs.CutShort.{IsCutShort}
 use Rattle.world_commands.specs.Cut.{HidesNoRefusal}
 use Rattle.world_commands.specs.Done.{session_of}
+use Rattle.world_commands.proofs.Answered.{on-err}
 use Rattle.world_commands.proofs.Cut.{in-doing}
 use Rattle.run_session.specs.Holding.{world_in, AreWalkLinks}
 use Rattle.run_session.specs.Kept.{IsLastMap, AreLastRoutes, GoesOn}
 use Rattle.run_session.specs.Obeyed.{IsObeyed}
+use Rattle.run_session.specs.Told.{map_of}
 use Rattle.run_session.proofs.Going.{kept-over, links-over, routes-over}
 use Rattle.run_session.proofs.Leaving.{map-unrefused}
 use Rattle.run_session.proofs.held.obey_parts.Goals as goal
@@ -83,3 +86,14 @@ pub returns-in-None-clause-cut : goal.returns-in-None-clause-cut
 returns-in-None-clause-cut c =
     let there : world_in c.args.slot.now ≡ c.in-Some.world = cc (c.requires.there) in
     subst (λ (w : WorldState). OnErr c.obey_here.result (IsCutShort (session_of w c.args.last_map.now c.args.last_routes.now) c.args.c.now c.obey_here.new.w)) (sym there) c.obey_here.ensures.cut
+
+pub returns-in-Some-map_ordered-clause-cut : goal.returns-in-Some-map_ordered-clause-cut
+returns-in-Some-map_ordered-clause-cut c =
+    let there : world_in c.args.slot.now ≡ c.in-Some.world = cc (c.requires.there) in
+    let v : WorldState = world_in c.map_slot.new.slot in
+    let made = c.in-Some-map_ordered.ensures.made in
+    let of_map = on-err {P = (found : Option LastRoutes) → IsCutShort (session_of c.in-Some.world c.args.last_map.now found) (map_of c.in-Some-map_ordered.order) v}
+    {Q = IsCutShort (session_of c.in-Some.world c.args.last_map.now c.args.last_routes.now) (map_of c.in-Some-map_ordered.order) v}
+    c.map_slot.result (λ cut. cut c.args.last_routes.now) c.map_slot.ensures.cut in
+    subst (λ (w : WorldState). OnErr c.map_slot.result (IsCutShort (session_of w c.args.last_map.now c.args.last_routes.now) c.args.c.now v)) (sym there)
+    (subst (λ (d : Command). OnErr c.map_slot.result (IsCutShort (session_of c.in-Some.world c.args.last_map.now c.args.last_routes.now) d v)) (sym made.0) of_map)

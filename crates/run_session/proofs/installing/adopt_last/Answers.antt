@@ -3,7 +3,8 @@ use Rattle.std.specs.Prelude.{ℕ}
 use Rattle.world_defs.specs.World.{fabric_of}
 use Rattle.adopted_routes.specs.Adopting.{IsAdoptable}
 use Rattle.fab_world.specs.Events.{IsHostOf}
-use Rattle.run_session.proofs.Installable.{kept-adoptable, mapper-there, memory-alone}
+use Rattle.route_making.proofs.Adoptable.{kept-adoptable}
+use Rattle.run_session.proofs.Installable.{mapper-there, memory-alone}
 use Rattle.run_session.proofs.installing.adopt_last.Goals as goal
 
 pub adopt-requires-clause-there : goal.adopt-requires-clause-there

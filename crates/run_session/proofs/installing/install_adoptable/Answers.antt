@@ -1,7 +1,7 @@
 use Rattle.std.proofs.Common.{Some, sym, subst}
 use Rattle.net_defs.specs.Network.{Network}
 use Rattle.cable_history.specs.History.{fabric_at}
-use Rattle.promise_laws.specs.CommandActs.{install_acts}
+use Rattle.run_defs.specs.Outcome.{install}
 use Rattle.promise_laws.proofs.CutShort.{part-none}
 use Rattle.run_session.specs.Kept.{AreKeptRoutes}
 use Rattle.run_session.proofs.Going.{goes-as, goes-on, goes-adopted, routes-now}
@@ -30,7 +30,7 @@ install_adopted-requires-clause-last c = (adopted-are_last (fabric_at c.args.w.n
 
 pub returns-in_default-clause-err : goal.returns-in_default-clause-err
 returns-in_default-clause-err c =
-    part-none c.args.w.now c.adopt_last.new.w (install_acts c.args.w.now c.args.tries (Some c.args.l.now)) c.in_default.ensures.err
+    part-none c.args.w.now c.adopt_last.new.w (install c.args.w.now c.args.tries (Some c.args.l.now)).acts c.in_default.ensures.err
 
 pub returns-clause-told : goal.returns-clause-told
 returns-clause-told c =

@@ -2,11 +2,10 @@ use Rattle.std.proofs.Common.{◌≡◌, ◌∷◌, [], Option, Some, true, fals
 use Rattle.world_defs.specs.World.{fabric_of}
 use Rattle.run_defs.specs.declared.command.Command.TheVariants.{Install}
 use Rattle.run_defs.specs.declared.line.Line.TheVariants.{InstallRefused}
-use Rattle.run_defs.specs.Outcome.{may_install, refusal_cause}
+use Rattle.run_defs.specs.Outcome.{install, may_install, refusal_cause}
 use Rattle.run_defs.specs.Output.{OneLine}
 use Rattle.run_defs.specs.Session.{LastMap}
 use Rattle.fab_report.specs.Printed.{printed_of}
-use Rattle.promise_laws.specs.CommandActs.{install_acts}
 use Rattle.promise_laws.proofs.CutShort.{part-none}
 use Rattle.world_drain.proofs.Later.{on-any}
 use Rattle.world_commands.specs.Cut.{HidesNoRefusal}
@@ -29,7 +28,7 @@ returns-in-Some-clause-told c =
     (λ p e. refused_told w l c.args.tries c.in-Some.cause c.install_refused.result p c.requires.idle c.install_refused.ensures c.in-Some.is e) c.refused_text.ensures.text
 
 pub returns-in-Some-clause-err : goal.returns-in-Some-clause-err
-returns-in-Some-clause-err c = on-any c.refused_text.result (part-none c.args.w.now c.args.w.now (install_acts c.args.w.now c.args.tries (Some c.args.l.now)) refl)
+returns-in-Some-clause-err c = on-any c.refused_text.result (part-none c.args.w.now c.args.w.now (install c.args.w.now c.args.tries (Some c.args.l.now)).acts refl)
 
 pub returns-in-Some-clause-unrefused : goal.returns-in-Some-clause-unrefused
 returns-in-Some-clause-unrefused c =

@@ -1,7 +1,7 @@
 use Rattle.std.proofs.Common.{◌∙◌, Option, Some, refl, sym}
 use Rattle.run_defs.specs.declared.command.Command.TheVariants.{Install}
 use Rattle.run_defs.specs.Session.{LastMap}
-use Rattle.promise_laws.specs.CommandActs.{install_acts}
+use Rattle.run_defs.specs.Outcome.{install}
 use Rattle.promise_laws.proofs.CutShort.{part-none}
 use Rattle.world_drain.proofs.Later.{on-any}
 use Rattle.world_commands.specs.Cut.{HidesNoRefusal}
@@ -11,7 +11,7 @@ use Rattle.run_session.proofs.Leaving.{busy-install-missing}
 use Rattle.run_session.proofs.installing.install_last.Goals as goal
 
 pub returns-clause-err : goal.returns-clause-err
-returns-clause-err c = on-any c.refused_text.result (part-none c.args.w.now c.args.w.now (install_acts c.args.w.now c.args.tries (Some c.args.l.now)) refl)
+returns-clause-err c = on-any c.refused_text.result (part-none c.args.w.now c.args.w.now (install c.args.w.now c.args.tries (Some c.args.l.now)).acts refl)
 
 pub returns-clause-unrefused : goal.returns-clause-unrefused
 returns-clause-unrefused c =

@@ -2,7 +2,7 @@ use Rattle.std.proofs.Common.{Option, refl, sym, subst}
 use Rattle.std.specs.Prelude.{IfErr}
 use Rattle.run_defs.specs.declared.command.Command.TheVariants.{Install}
 use Rattle.run_defs.specs.Session.{LastMap, LastRoutes}
-use Rattle.promise_laws.specs.CommandActs.{install_acts}
+use Rattle.run_defs.specs.Outcome.{install}
 use Rattle.promise_laws.proofs.CutShort.{part-none}
 use Rattle.world_drain.proofs.Later.{on-any}
 use Rattle.world_commands.specs.Cut.{HidesNoRefusal}
@@ -12,7 +12,7 @@ use Rattle.run_session.proofs.Leaving.{no-routes-missing}
 use Rattle.run_session.proofs.installing.install_text.Goals as goal
 
 pub returns-in-None-clause-err : goal.returns-in-None-clause-err
-returns-in-None-clause-err c = on-any c.refused_text.result (part-none c.args.w.now c.args.w.now (install_acts c.args.w.now c.args.tries c.args.last.now) refl)
+returns-in-None-clause-err c = on-any c.refused_text.result (part-none c.args.w.now c.args.w.now (install c.args.w.now c.args.tries c.args.last.now).acts refl)
 
 pub returns-in-None-clause-unrefused : goal.returns-in-None-clause-unrefused
 returns-in-None-clause-unrefused c =

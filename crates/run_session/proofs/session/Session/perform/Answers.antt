@@ -1,5 +1,6 @@
 use Rattle.std.proofs.Common.{◌≡◌, subst}
 use Rattle.run_defs.specs.Session.{SessionState}
+use Rattle.promise_laws.specs.CutShort.{IsCutShort}
 use Rattle.promise_laws.specs.Duos.{IsDuoLeft}
 use Rattle.world_commands.specs.Cut.{HidesNoRefusal}
 use Rattle.run_session.specs.Kept.{GoesOn}
@@ -32,3 +33,10 @@ returns-in-Err-clause-err c =
     let seen = c.self.view_is in
     let same : c.deref_mut.result.now ≡ c.args.self = cc in
     subst (λ (x : SessionState). GoesOn x.world c.obey-printed.new.self.world) same c.obey-printed.ensures.cables
+
+pub returns-in-Err-clause-cut : goal.returns-in-Err-clause-cut
+returns-in-Err-clause-cut c =
+    let held = c.deref_mut.ensures.value in
+    let seen = c.self.view_is in
+    let same : c.deref_mut.result.now ≡ c.args.self = cc in
+    subst (λ (x : SessionState). IsCutShort x c.args.c.now c.obey-printed.new.self.world) same c.in-Err.ensures.cut
