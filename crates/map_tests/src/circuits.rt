@@ -1,33 +1,9 @@
-//! Where a walk ends over circuit links, and the paths of a core.
+//! The paths of a core over circuit links.
 
-use crate::fabrics::{SELF_CABLED, TWO_HOSTS, fabric_of};
+use crate::fabrics::{TWO_HOSTS, fabric_of};
 use circ_ears::{EarList, ears};
-use circ_link::circ_place;
-use net_defs::Place;
 use port_graph::Fabric;
 use std::alloc::Global;
-
-// Where a walk of host 0 ends, over links that let go and over circuit links.
-fn places(alloc: Global, text: &str, turns: &[i8]) -> Option<(Place, Place)> {
-    match fabric_of(alloc, text) {
-        Some(fabric) => places_over(&fabric, turns),
-        None => None,
-    }
-}
-
-// The same over a fabric.
-fn places_over(fabric: &Fabric, turns: &[i8]) -> Option<(Place, Place)> {
-    if turns.len() > 64 {
-        return None;
-    }
-    Some((fabric.walk(0, turns), circ_place(fabric, 0, turns)))
-}
-
-#[test]
-fn a_walk_that_crosses_a_cable_both_ways_is_held(rt: HostRuntime) {
-    let ends = places(rt.alloc(), SELF_CABLED, &[3, 1, -2]);
-    assert!(rt; ends == Some((Place::Switch(0, 3), Place::Nothing)));
-}
 
 // Whether paths are that of cable 0, and that of cable 1 with its way back.
 fn are_two_hosts(paths: &EarList) -> bool {

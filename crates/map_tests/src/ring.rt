@@ -7,9 +7,9 @@ use crate::fabrics::{RING, fabric_of};
 use fabric_map::FabricMap;
 use map_laws::journal_has_one_map;
 use mapper::{Mapped, map};
-use port_graph::{Fabric, Route, RouteSet, Walk};
+use port_graph::Fabric;
 use probe::FabricProber;
-use rank_cert::{CheckFault, Ranks, certify, check};
+use rank_cert::{CheckFault, certify, check};
 use route_calc::routes;
 use std::alloc::{AllocError, Global};
 use updown::orient;
@@ -40,63 +40,34 @@ fn map_in(made: Mapped) -> FabricMap
     map
 }
 
-// What the check says of the routes of a map and of others, both under the ranks of that map.
-type Told = (usize, Result<(), CheckFault>, Result<(), CheckFault>);
+// How many routes there are, and what the check says of them under the ranks of their map.
+type Told = (usize, Result<(), CheckFault>);
 
 // What it says of a connected map.
-fn told(alloc: Global, m: &FabricMap, others: &RouteSet) -> Result<Told, AllocError>
+fn told(alloc: Global, m: &FabricMap) -> Result<Told, AllocError>
     requires connected { IsConnected m.now }
     requires few { length (switches_of m.now.vertices) ≤ 64 }
 {
     let o = orient(alloc, m)?;
     let set = routes(alloc, m, &o)?;
     let ranks = certify(alloc, m, o.order())?;
-    Ok(told_under(m, &set, others, &ranks))
-}
-
-// The same under ranks.
-fn told_under(m: &FabricMap, set: &RouteSet, others: &RouteSet, ranks: &Ranks) -> Told {
-    (
-        set.list().len(),
-        check(m, set, ranks),
-        check(m, others, ranks),
-    )
-}
-
-// The routes of the four hosts each to the one opposite, all the same way round.
-fn routes_around(alloc: Global) -> Option<RouteSet> {
-    let mut set = RouteSet::new(alloc);
-    for from in 0..4u16 {
-        put_around(alloc, &mut set, from)?;
-    }
-    Some(set)
-}
-
-// Puts the route of a host into them.
-fn put_around(alloc: Global, set: &mut RouteSet, from: u16) -> Option<()> {
-    let walk = Walk::new(alloc, &[-2, -1, 1]).ok()?;
-    let to = (from & 3) ^ 2;
-    match set.push(Route { from, to, walk }) {
-        Ok(()) => Some(()),
-        Err(_) => None,
-    }
+    Ok((set.list().len(), check(m, &set, &ranks)))
 }
 
 // What it says of one that is small enough.
-fn told_if_few(alloc: Global, m: &FabricMap, others: &RouteSet) -> Option<Told>
+fn told_if_few(alloc: Global, m: &FabricMap) -> Option<Told>
     requires { IsConnected m.now }
 {
     if m.switches() > 64 {
         return None;
     }
-    told(alloc, m, others).ok()
+    told(alloc, m).ok()
 }
 
 // What is said of the map of a fabric.
 fn told_of(alloc: Global, fabric: &Fabric) -> Option<Told> {
-    let around = routes_around(alloc)?;
     match map_from(alloc, fabric) {
-        Some(m) => told_if_few(alloc, &m, &around),
+        Some(m) => told_if_few(alloc, &m),
         None => None,
     }
 }
@@ -110,12 +81,6 @@ fn told_of_text(alloc: Global, text: &str) -> Option<Told> {
 }
 
 #[test]
-fn the_routes_of_a_ring_are_certified_and_those_around_it_are_not(rt: HostRuntime) {
-    let fallen = CheckFault::BadRank {
-        c: (2, -1),
-        d: (4, -1),
-        rank_c: 10,
-        rank_d: 3,
-    };
-    assert!(rt; told_of_text(rt.alloc(), RING) == Some((12, Ok(()), Err(fallen))));
+fn the_routes_of_a_ring_are_certified(rt: HostRuntime) {
+    assert!(rt; told_of_text(rt.alloc(), RING) == Some((12, Ok(()))));
 }

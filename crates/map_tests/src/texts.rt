@@ -1,19 +1,14 @@
-//! A fabric and a map, read and printed; the bridges of a map.
+//! A fabric and a map, printed as they were read; the bridges of a map.
 
 ghost use Rattle.map_canon.specs.Printing.{AreOfFabric};
 
 use crate::fabrics::{SELF_CABLED, TWO_HOSTS, fabric_of};
 use core_map::switch_bridges;
-use fab_text::{FaultKind, TextFault};
 use fabric_file::print_fabric;
 use fabric_map::FabricMap;
 use map_canon::{print_map, read_map};
 use port_graph::Fabric;
 use std::alloc::Global;
-
-const MAP: &str = "host a\nswitch #0 core\nhost b\ncable a 0 #0 0\ncable #0 +3 b 0\nendmap\n";
-
-const WITHOUT_END: &str = "host a\nswitch #0 core\nhost b\ncable a 0 #0 0\ncable #0 +3 b 0\n";
 
 // The map of the self-cabled fabric.
 const SELF_CABLED_MAP: &str = "host a\nswitch #0 core\nhost b\nswitch #1 outside\n\
@@ -40,56 +35,14 @@ fn a_fabric_is_printed_as_its_lines(rt: HostRuntime) {
     assert!(rt; is_fabric_printed(rt.alloc(), TWO_HOSTS) == Some(true));
 }
 
-// Whether the map of a text over a fabric is printed as that text, or why it isn't read.
-fn is_map_printed(alloc: Global, fabric: &Fabric, text: &str) -> Result<bool, TextFault> {
-    if text.len() > 1000 {
-        return Ok(false);
-    }
-    match read_map(alloc, text.as_bytes(), fabric) {
-        Ok(map) => is_printed_as(alloc, &map, fabric, text),
-        Err(fault) => Err(fault),
-    }
-}
-
 // Whether a map of a fabric is printed as a text.
-fn is_printed_as(
-    alloc: Global,
-    map: &FabricMap,
-    fabric: &Fabric,
-    text: &str,
-) -> Result<bool, TextFault>
+fn is_printed_as(alloc: Global, map: &FabricMap, fabric: &Fabric, text: &str) -> Option<bool>
     requires { AreOfFabric fabric.now map.now }
 {
     match print_map(alloc, map, fabric) {
-        Ok(printed) => Ok(printed.as_slice() == text.as_bytes()),
-        Err(_) => Err(TextFault::NoMemory),
+        Ok(printed) => Some(printed.as_slice() == text.as_bytes()),
+        Err(_) => None,
     }
-}
-
-// The same over the fabric of a text.
-fn is_printed_back(alloc: Global, fabric: &str, text: &str) -> Option<Result<bool, TextFault>> {
-    match fabric_of(alloc, fabric) {
-        Some(fabric) => Some(is_map_printed(alloc, &fabric, text)),
-        None => None,
-    }
-}
-
-#[test]
-fn a_map_is_read_and_printed_back(rt: HostRuntime) {
-    let endless = TextFault::At {
-        line: 6,
-        kind: FaultKind::NoEnd,
-    };
-    assert!(rt; is_printed_back(rt.alloc(), TWO_HOSTS, MAP) == Some(Ok(true)));
-    assert!(rt; is_printed_back(rt.alloc(), TWO_HOSTS, WITHOUT_END) == Some(Err(endless)));
-}
-
-// The map of a text over a fabric.
-fn map_over(alloc: Global, fabric: &Fabric, text: &str) -> Option<FabricMap> {
-    if text.len() > 1000 {
-        return None;
-    }
-    read_map(alloc, text.as_bytes(), fabric).ok()
 }
 
 // Whether the third cable of a map is its one bridge between switches.
@@ -100,23 +53,35 @@ fn has_third_bridge(alloc: Global, map: &FabricMap) -> Option<bool> {
     }
 }
 
-// The same of the map of a text over a fabric.
-fn has_third_bridge_over(alloc: Global, fabric: &Fabric, text: &str) -> Option<bool> {
-    match map_over(alloc, fabric, text) {
-        Some(map) => has_third_bridge(alloc, &map),
-        None => None,
+// Both of the map of a text over a fabric.
+fn is_read(alloc: Global, fabric: &Fabric, text: &str) -> Option<(bool, bool)> {
+    if text.len() > 1000 {
+        return None;
+    }
+    match read_map(alloc, text.as_bytes(), fabric) {
+        Ok(map) => is_kept(alloc, &map, fabric, text),
+        Err(_) => None,
     }
 }
 
+// Whether a map of a fabric is printed as a text, and has its one bridge there.
+fn is_kept(alloc: Global, map: &FabricMap, fabric: &Fabric, text: &str) -> Option<(bool, bool)>
+    requires { AreOfFabric fabric.now map.now }
+{
+    let printed = is_printed_as(alloc, map, fabric, text)?;
+    let bridged = has_third_bridge(alloc, map)?;
+    Some((printed, bridged))
+}
+
 // The same over the fabric of another text.
-fn is_third_bridge(alloc: Global, fabric: &str, text: &str) -> Option<bool> {
+fn is_read_over(alloc: Global, fabric: &str, text: &str) -> Option<(bool, bool)> {
     match fabric_of(alloc, fabric) {
-        Some(fabric) => has_third_bridge_over(alloc, &fabric, text),
+        Some(fabric) => is_read(alloc, &fabric, text),
         None => None,
     }
 }
 
 #[test]
-fn the_cable_to_a_side_without_hosts_is_a_bridge(rt: HostRuntime) {
-    assert!(rt; is_third_bridge(rt.alloc(), SELF_CABLED, SELF_CABLED_MAP) == Some(true));
+fn a_map_is_printed_back_and_a_side_without_hosts_hangs_on_a_bridge(rt: HostRuntime) {
+    assert!(rt; is_read_over(rt.alloc(), SELF_CABLED, SELF_CABLED_MAP) == Some((true, true)));
 }

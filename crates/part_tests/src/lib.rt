@@ -1,33 +1,24 @@
-//! Tests of calls of connections, ports, cables, installations, epochs, streams, ledgers and hosts that restart, which
-//! no worked text reaches, and worked examples of the bytes of packets. Nothing stands on it.
+//! Tests of calls of connections, buffers, installations, streams and hosts that restart, which no worked text reaches,
+//! and worked examples of the bytes of packets. Nothing stands on it.
 //!
 //! | module | has |
 //! |---|---|
 //! | `examples` | the bytes of frames, probes and tables |
-//! | `cables` | a cable that is taken away, and another where it was |
-//! | `connections` | a connection at its last number, and a message in two fragments |
+//! | `connections` | a message over a pair of a sender and a receiver |
 //! | `installing` | what an installation awaits first |
-//! | `epochs` | an epoch that hosts give up, and the next |
-//! | `ports` | a port that is filling, and a buffer that parts from its message |
-//! | `ledgers` | what the lines of a report tell of messages and tokens |
+//! | `ports` | a buffer that parts from its message, and bytes that don't count up |
 //! | `numbers` | offsets of ports, texts of faults |
 //! | `packets` | a byte's share in a CRC, a packet that is stripped, and bodies written as they were read |
-//! | `restarts` | two hosts that restart |
+//! | `restarts` | two hosts that restart, at the last incarnation |
 //! | `streams` | std's readers and writers as a source and a sink |
 //! | `pieces` | the same, of readers and writers that move a byte a call, and then none, or fail |
 #![tactic(auto)]
 
 #[cfg(test)]
-mod cables;
-#[cfg(test)]
 mod connections;
-#[cfg(test)]
-mod epochs;
 mod examples;
 #[cfg(test)]
 mod installing;
-#[cfg(test)]
-mod ledgers;
 #[cfg(test)]
 mod numbers;
 #[cfg(test)]
