@@ -14,7 +14,7 @@ mod writing;
 
 pub use gm_defs::{Ack, Blob, FrameHead, GmBody, Malformed};
 pub use reading::{decode, part_of};
-pub use writing::{encode_ack, encode_frame};
+pub use writing::{append_ack, append_frame, encode_ack, encode_frame};
 
 // The kinds of body.
 const FRAME: u8 = 1;
@@ -24,8 +24,8 @@ const ACK: u8 = 2;
 // The version of both.
 const VERSION: u8 = 2;
 
-// The bytes of a frame before those of its fragment.
-const FRAME_LENGTH: usize = 23;
+/// The bytes of a frame before those of its fragment.
+pub const FRAME_LENGTH: usize = 23;
 
-// The bytes of an acknowledgement.
-const ACK_LENGTH: usize = 11;
+/// The bytes of an acknowledgement.
+pub const ACK_LENGTH: usize = 11;

@@ -1,6 +1,6 @@
 //! From values to bytes.
 
-ghost use Rattle.std.specs.Prelude.{◌≡◌, ◌<◌, ◌^◌, length, true, IfOk};
+ghost use Rattle.std.specs.Prelude.{◌≡◌, ◌<◌, ◌≤◌, ◌^◌, ◌++◌, length, true, IfOk, OnOk};
 ghost use Rattle.gm_defs.specs.declared.frame.GmBody.TheVariants.{Frame, Ack as Acknowledges};
 ghost use Rattle.gm_defs.specs.Body.{is_prio, is_head, head_bytes, frame_bytes, ack_bytes, decode};
 
@@ -17,9 +17,21 @@ pub fn encode_frame(alloc: Global, h: &FrameHead, part: &[u8]) -> Result<Vec<u8>
 {
     bodies_are_read();
     let mut body = Vec::with_capacity(alloc, FRAME_LENGTH + part.len())?;
-    body.extend_from_slice(&bytes_of_head(h))?;
-    body.extend_from_slice(part)?;
+    append_frame(&mut body, h, part)?;
     Ok(body)
+}
+
+/// The same after other bytes, as the front of a packet: so it needs no buffer of its own.
+pub fn append_frame(bytes: &mut Vec<u8>, h: &FrameHead, part: &[u8]) -> Result<(), AllocError>
+    requires by_rules { is_head h.now ≡ true }
+    requires part { length part.now ≡ h.now.len }
+    ensures bytes { OnOk result (bytes.new.items ≡ bytes.old.items ++ frame_bytes h.now part.now) }
+    ensures few { length (frame_bytes h.now part.now) ≤ 1039 }
+    ensures fit { (h.now.src < 2 ^ 16) × (h.now.dst < 2 ^ 16) }
+{
+    bytes.extend_from_slice(&bytes_of_head(h))?;
+    bytes.extend_from_slice(part)?;
+    Ok(())
 }
 
 // A frame without its fragment.
@@ -48,8 +60,18 @@ pub fn encode_ack(alloc: Global, a: &Ack) -> Result<Vec<u8>, AllocError>
 {
     bodies_are_read();
     let mut body = Vec::with_capacity(alloc, ACK_LENGTH)?;
-    body.extend_from_slice(&bytes_of_ack(a))?;
+    append_ack(&mut body, a)?;
     Ok(body)
+}
+
+/// The same after other bytes, as the front of a packet: so it needs no buffer of its own.
+pub fn append_ack(bytes: &mut Vec<u8>, a: &Ack) -> Result<(), AllocError>
+    requires by_rules { is_prio a.now.prio ≡ true }
+    ensures bytes { OnOk result (bytes.new.items ≡ bytes.old.items ++ ack_bytes a.now) }
+    ensures few { length (ack_bytes a.now) ≡ 11 }
+    ensures fit { (a.now.src < 2 ^ 16) × (a.now.dst < 2 ^ 16) × (a.now.next < 2 ^ 32) }
+{
+    bytes.extend_from_slice(&bytes_of_ack(a))
 }
 
 // The bytes of an acknowledgement.

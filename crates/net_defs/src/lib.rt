@@ -28,5 +28,6 @@ pub use fault::GraphFault;
 pub use place::{Answer, Place};
 pub use route::Route;
 pub use turn::leaving_port;
+pub use turn_list::FEW_TURNS;
 pub use vertex::{Cable, End, Vertex};
 pub use walk::{Walk, WalkFault};

@@ -5,14 +5,14 @@ ghost use Rattle.net_defs.specs.TurnList.{IsSound, turns_in};
 
 use std::alloc::{AllocError, Global};
 
-// How many turns take no block of their own. Few walks are longer, and with 14 of them a list takes 16 bytes.
-const FEW: usize = 14;
+/// How many turns take no block of their own. Few walks are longer, and with 14 of them a list takes 16 bytes.
+pub const FEW_TURNS: usize = 14;
 
 /// Turns in their order.
 #[derive(Debug, Drop)]
 pub(crate) enum TurnList {
     /// The first so many of the places.
-    Few(u8, [i8; FEW]),
+    Few(u8, [i8; FEW_TURNS]),
     /// In a block of their own.
     Many(Box<Vec<i8>>),
 }
@@ -23,10 +23,22 @@ impl TurnList {
         ensures turns { IfOk result (λ list. turns_in list ≡ turns.now) }
         ensures sound { IfOk result (λ list. IsSound list) }
     {
-        if turns.len() <= FEW {
+        if turns.len() <= FEW_TURNS {
             Ok(few(turns))
         } else {
             many(alloc, turns)
+        }
+    }
+
+    /// The same turns again. Few of them are copied with their places, whatever their number.
+    pub(crate) fn copied(&self, alloc: Global) -> Result<TurnList, AllocError>
+        requires { IsSound self.now }
+        ensures turns { IfOk result (λ list. turns_in list ≡ turns_in self.now) }
+        ensures sound { IfOk result (λ list. IsSound list) }
+    {
+        match self {
+            TurnList::Few(count, places) => Ok(TurnList::Few(*count, *places)),
+            TurnList::Many(turns) => many(alloc, turns.as_slice()),
         }
     }
 
@@ -62,7 +74,7 @@ fn few(turns: &[i8]) -> TurnList
     ensures turns { turns_in result ≡ turns.now }
     ensures sound { IsSound result }
 {
-    let mut places = [0; FEW];
+    let mut places = [0; FEW_TURNS];
     places[..turns.len()].copy_from_slice(turns);
     TurnList::Few(turns.len() as u8, places)
 }

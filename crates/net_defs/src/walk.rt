@@ -1,11 +1,11 @@
 //! A walk: the turns that a packet takes, one at each switch.
 
-ghost use Rattle.std.specs.Prelude.{◌≡◌, ◌≤◌, ◌<◌, ◌-◌, ◌++◌, ◌∷◌, [], length, take, IfOk, All};
+ghost use Rattle.std.specs.Prelude.{◌≡◌, ◌≤◌, ◌<◌, ◌-◌, ◌++◌, ◌∷◌, [], length, take, true, IfOk, All};
 ghost use Rattle.net_defs.specs.Refusal.{Refuses};
 ghost use Rattle.std.specs.List.{list_all};
 ghost use Rattle.net_defs.specs.Turn.{is_turn, IsTurn, walk_refusal};
 
-use crate::turn_list::TurnList;
+use crate::turn_list::{FEW_TURNS, TurnList};
 use std::alloc::{AllocError, Global};
 use std::marker::Model;
 use thiserror::Error;
@@ -68,6 +68,17 @@ impl Walk {
         }
     }
 
+    /// The walk of the first so many of these turns. It takes no memory.
+    pub fn of_few(count: u8, turns: [i8; FEW_TURNS]) -> Walk
+        requires few { count ≤ 14 }
+        requires in_range { list_all is_turn (take count turns) ≡ true }
+        ensures { result ≡ take count turns }
+    {
+        Walk {
+            turns: TurnList::Few(count, turns),
+        }
+    }
+
     /// Its turns, in the order of the switches.
     pub fn turns(&self) -> &[i8]
         ensures value { result.now ≡ self.now }
@@ -81,7 +92,7 @@ impl Walk {
     pub fn copied(&self, alloc: Global) -> Result<Walk, AllocError>
         ensures { IfOk result (λ walk. walk ≡ self.now) }
     {
-        let turns = TurnList::new(alloc, self.turns())?;
+        let turns = self.turns.copied(alloc)?;
         Ok(Walk { turns })
     }
 

@@ -1,8 +1,6 @@
 -- What a host sends first: an item, then what is owed, then what is due.
-use Rattle.std.proofs.Common.{◌≡◌, ℕ, ℤ, true, false, List, Option, Some, None, refl, ap, ◌∙◌, arith}
+use Rattle.std.proofs.Common.{◌≡◌, ℕ, true, false, Option, Some, None, refl, ap, ◌∙◌, arith}
 use Rattle.std.specs.Prelude.{is_some, option_map, Result, Ok, Err, IfOk}
-use Rattle.packet_defs.specs.declared.kind.Kind.TheVariants.{Gm}
-use Rattle.packet_defs.specs.Packet.{packet_of}
 use Rattle.world_defs.specs.Node.{Staged, StagedReply, StagedAck, NodeState, Outgoing, Reply, PartAnswer, outgoing_staged, either, first_some, lanes_of, owed_on, due_on, to_send}
 use Rattle.host_items.specs.Held.{first_of}
 use Rattle.nic_node.specs.Sending.{items_in}
@@ -48,9 +46,3 @@ send-fragment host n x none nothing is =
 pub made-as : {P E : Type 0} (r : Result P E) (x y : P) → IfOk r (λ p. p ≡ x) → x ≡ y → IfOk r (λ p. p ≡ y)
 made-as (Ok p) x y is e = is ∙ e
 made-as (Err error) x y is e = tt
-
--- a packet of messages, from parts that were made
-pub packet-as : {E : Type 0} (r : Result (List ℕ) E) (route by_it : List ℤ) (payload bytes : List ℕ) → route ≡ by_it → payload ≡ bytes → IfOk r (λ p. p ≡ packet_of route Gm payload)
-    → IfOk r (λ p. p ≡ packet_of by_it Gm bytes)
-packet-as (Ok p) route by_it payload bytes e f is = is ∙ (λ i. packet_of (e i) Gm (f i))
-packet-as (Err error) route by_it payload bytes e f is = tt

@@ -11,9 +11,9 @@ ghost use Rattle.nic_node.specs.Sending.{after_first};
 
 use crate::next::NextSend;
 use crate::node::NicNode;
-use gm_frame::{encode_ack, encode_frame};
+use gm_frame::{ACK_LENGTH, FRAME_LENGTH, append_ack, append_frame};
 use host_lanes::{Ack, DueFrame, FrameHead};
-use myri_packet::{Kind, Packet, encode};
+use myri_packet::{Kind, Packet, packet_front, seal};
 use net_defs::Walk;
 use std::alloc::{AllocError, Global};
 
@@ -109,16 +109,17 @@ fn part_at(buffer: &[u8], offset: u32, len: u16) -> &[u8]
     &buffer[from..from + usize::from(len)]
 }
 
-// The packet of an acknowledgement, by a route.
+// The packet of an acknowledgement, by a route. Its body is written into the packet's own buffer.
 fn ack_packet(alloc: Global, ack: &Ack, by: &Walk) -> Result<Packet, AllocError>
     requires { is_prio ack.now.prio ≡ true }
     ensures { IfOk result (λ packet. packet ≡ packet_of by.now Kind.Gm (ack_bytes ack.now)) }
 {
-    let payload = encode_ack(alloc, ack)?;
-    encode(alloc, by.turns(), Kind::Gm, &payload)
+    let mut bytes = packet_front(alloc, by.turns(), Kind::Gm, ACK_LENGTH)?;
+    append_ack(&mut bytes, ack)?;
+    seal(bytes)
 }
 
-// The packet of a fragment, by a route.
+// The packet of a fragment, by a route. Its body is written into the packet's own buffer.
 fn frame_packet(
     alloc: Global,
     head: &FrameHead,
@@ -129,6 +130,7 @@ fn frame_packet(
     requires part { length part.now ≡ head.now.len }
     ensures { IfOk result (λ packet. packet ≡ packet_of by.now Kind.Gm (frame_bytes head.now part.now)) }
 {
-    let payload = encode_frame(alloc, head, part)?;
-    encode(alloc, by.turns(), Kind::Gm, &payload)
+    let mut bytes = packet_front(alloc, by.turns(), Kind::Gm, FRAME_LENGTH + part.len())?;
+    append_frame(&mut bytes, head, part)?;
+    seal(bytes)
 }

@@ -1,6 +1,7 @@
 //! The acknowledgement of a part.
 
-ghost use Rattle.std.specs.Prelude.{◌≡◌, Some, IfOk, IfErr};
+ghost use Rattle.std.specs.Prelude.{◌≡◌, ◌<◌, ◌^◌, ◌++◌, ◌∷◌, Some, length, IfOk, IfErr, OnOk};
+ghost use Rattle.std.specs.Int.{w16, w32, to_be_bytes};
 ghost use Rattle.mapping_defs.specs.Mapping.{mapping_bytes, decode_mapping};
 ghost use Rattle.route_parts.specs.Reading.{ack_body, ack_in, missing};
 
@@ -11,6 +12,12 @@ use std::alloc::{AllocError, Global};
 
 // The kind of its body.
 const KIND: u8 = 5;
+
+/// The bytes of an acknowledgement.
+pub const ACK_LENGTH: usize = 8;
+
+// Those of them before the number of the part.
+const FRONT_LENGTH: usize = 7;
 
 /// A host's answer to a part: it has taken it.
 #[derive(Clone, Copy, Debug, PartialEq, Eq)]
@@ -30,12 +37,33 @@ impl PartAck {
         ensures read { IfOk result (λ bytes. decode_mapping bytes.items ≡ Some (ack_body self.now)) }
     {
         mapping_is_read();
-        let mut bytes = Vec::with_capacity(alloc, 8)?;
-        bytes.push(KIND)?;
-        bytes.extend_from_slice(&self.epoch.to_be_bytes())?;
-        bytes.extend_from_slice(&self.host.to_be_bytes())?;
-        bytes.push(self.part)?;
+        let mut bytes = Vec::with_capacity(alloc, ACK_LENGTH)?;
+        self.append(&mut bytes)?;
         Ok(bytes)
+    }
+
+    /// Its bytes after others, as the front of a packet: so it needs no buffer of its own. Where memory runs out, a part
+    /// of them may stand there.
+    pub fn append(&self, bytes: &mut Vec<u8>) -> Result<(), AllocError>
+        ensures bytes { OnOk result (bytes.new.items ≡ bytes.old.items ++ mapping_bytes (ack_body self.now)) }
+        ensures few { length (mapping_bytes (ack_body self.now)) ≡ 8 }
+        ensures fit { OnOk result ((self.now.epoch < 2 ^ 32) × (self.now.host < 2 ^ 16) × (self.now.part < 256)) }
+    {
+        let part = self.part;
+        bytes.extend_from_slice(&self.front())?;
+        bytes.push(part)?;
+        Ok(())
+    }
+
+    // Its bytes without the number of the part.
+    fn front(&self) -> [u8; FRONT_LENGTH]
+        ensures bytes { result ≡ 5 ∷ to_be_bytes w32 self.now.epoch ++ to_be_bytes w16 self.now.host }
+        ensures fit { (self.now.epoch < 2 ^ 32) × (self.now.host < 2 ^ 16) }
+    {
+        let (epoch, host) = (self.epoch, self.host);
+        let [e0, e1, e2, e3] = epoch.to_be_bytes();
+        let [h0, h1] = host.to_be_bytes();
+        [KIND, e0, e1, e2, e3, h0, h1]
     }
 
     /// The acknowledgement that is all of the bytes. `Malformed` exactly where they are none; it takes no memory.

@@ -19,7 +19,7 @@ mod part;
 mod reading;
 mod routes;
 
-pub use ack::PartAck;
+pub use ack::{ACK_LENGTH, PartAck};
 pub use entry::{EntryList, TableEntry};
 pub use fault::BodyFault;
 pub use part::RoutePart;

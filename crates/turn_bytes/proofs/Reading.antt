@@ -63,14 +63,24 @@ turn-fits byte t e =
     fits : (t : ℤ) → int_le (negsuc 14) t ≡ true → int_le t (pos 15) ≡ true → SFits w8 t
     fits t a b = grind (arith, ints)
 
--- the turns of at most 64 bytes, once all are read, are a walk
-pub turns-walk : (bs : List ℕ) (ts : List ℤ) → length bs ≤ 64 → turns_of bs ≡ option_map (λ us. take (length bs) ts ++ us) (turns_of (drop (length bs) bs)) → walk_refusal (take (length bs) ts) ≡ None
-turns-walk bs ts few read =
+-- all bytes were read
+pub turns-all : (bs : List ℕ) (ts : List ℤ) → turns_of bs ≡ option_map (λ us. take (length bs) ts ++ us) (turns_of (drop (length bs) bs)) → turns_of bs ≡ Some (take (length bs) ts)
+turns-all bs ts read =
     let front = take (length bs) ts in
-    let all : turns_of bs ≡ Some front =
     read
     ∙ ap (λ (l : List ℕ). option_map (λ us. front ++ us) (turns_of l)) (drop_all (length bs) bs (omega arith))
-    ∙ ap Some (append-nil front) in
+    ∙ ap Some (append-nil front)
+
+-- a byte among them stands for no turn
+pub turns-none : (bs : List ℕ) (before : List ℤ) (at : ℕ) → at < length bs → turn_of (get_or bs at 0) ≡ None → turns_of bs ≡ option_map (λ us. before ++ us) (turns_of (drop at bs)) → turns_of bs ≡ None
+turns-none bs before at l told read =
+    read
+    ∙ ap (λ (l : List ℕ). option_map (λ us. before ++ us) (turns_of l)) (drop-cons bs at 0 l)
+    ∙ turns-stuck before (get_or bs at 0) (drop (suc at) bs) told
+
+-- the turns of at most 64 bytes are a walk
+pub turns-walk : (bs : List ℕ) (front : List ℤ) → length bs ≤ 64 → turns_of bs ≡ Some front → walk_refusal front ≡ None
+turns-walk bs front few all =
     let both = turns_of-turns bs front all in
     let same : length front ≡ length bs = both.1 in
     let short : nat_lt 64 (length front) ≡ false = grind (arith, nat_tests) in

@@ -22,9 +22,9 @@ pub fn turn_of(byte: u8) -> Option<i8>
     }
 }
 
-/// Whether a byte stands for a turn.
+/// Whether a byte stands for a turn. Its last six bits are the turn modulo 64: with 15 more they are at most 30.
 pub fn is_route_byte(byte: u8) -> bool
     ensures { result ≡ is_route_byte byte }
 {
-    turn_of(byte).is_some()
+    byte / 64 == 2 && (byte + 15) % 64 <= 30
 }

@@ -5,5 +5,6 @@ use Rattle.gm_frame.proofs.writing.encode_ack.Goals as goal
 
 pub returns-clause-read : goal.returns-clause-read
 returns-clause-read c =
-    let written : c.extend_from_slice.new.self.items ≡ ack_bytes c.args.a.now = grind (arith, common_steps) in
-    ap decode written ∙ c.bodies_are_read.ensures.acknowledgement c.args.a.now c.bytes_of_ack.ensures.fit.0 c.bytes_of_ack.ensures.fit.1 c.requires.by_rules c.bytes_of_ack.ensures.fit.2
+    let fit = c.in_ok-append_ack.ensures.fit in
+    let written : c.append_ack.new.bytes.items ≡ ack_bytes c.args.a.now = grind (arith, common_steps) in
+    ap decode written ∙ c.bodies_are_read.ensures.acknowledgement c.args.a.now fit.0 fit.1 c.requires.by_rules fit.2

@@ -1,9 +1,30 @@
-use Rattle.std.proofs.Common.{◌∙◌}
+use Rattle.std.proofs.Common.{◌≡◌, [], ◌∷◌, ◌++◌, length, map, ◌∙◌, ap, subst, arith}
+use Rattle.std.specs.Prelude.{IfOk}
+use Rattle.std.proofs.lemmas.List.{length-append, length-map}
+use Rattle.packet_defs.specs.declared.kind.Kind.TheVariants.{Gm}
+use Rattle.packet_defs.specs.Packet.{with_crc, head_of}
+use Rattle.packet_defs.specs.RouteByte.{route_byte}
 use Rattle.gm_defs.specs.Body.{frame_bytes}
-use Rattle.nic_node.proofs.First.{packet-as}
+use Rattle.myri_packet.proofs.Built.{front-behind}
 use Rattle.nic_node.proofs.sending.frame_packet.Goals as goal
+
+pub seal-requires : goal.seal-requires
+seal-requires c =
+    let route = c.turns.result.now in
+    let body = frame_bytes c.args.head.now c.args.part.now in
+    let front = map route_byte route in
+    let whole = ap length (c.in_ok-append_frame.ensures.bytes ∙ ap (λ l. l ++ body) c.in_ok-bytes.ensures) in
+    let behind = length-append (head_of route Gm []) body in
+    let two = length-append front (0 ∷ 8 ∷ []) in
+    let turns = length-map route route_byte in
+    let few = c.turns.ensures.short in
+    let short = c.in_ok-append_frame.ensures.few in
+    omega (arith, whole, behind, two, turns, few, short)
 
 pub returns : goal.returns
 returns c =
-    packet-as c.encode.result c.turns.result.now c.args.by.now c.deref.result.now (frame_bytes c.args.head.now c.args.part.now) c.turns.ensures.value
-    (c.deref.ensures.value ∙ c.in_ok-payload.ensures.bytes) c.encode.ensures
+    let body = frame_bytes c.args.head.now c.args.part.now in
+    subst (λ head. IfOk c.seal.result (λ p. p ≡ with_crc head))
+    (c.in_ok-append_frame.ensures.bytes ∙ ap (λ l. l ++ body) c.in_ok-bytes.ensures ∙ front-behind c.turns.result.now Gm body
+    ∙ ap (λ walk. head_of walk Gm body) c.turns.ensures.value)
+    c.seal.ensures
