@@ -52,7 +52,7 @@ impl ClientHost {
     {
         let alloc = *self.clients.allocator();
         let slot = &mut self.clients[usize::from(port)];
-        close(alloc, &mut self.node, slot, port)
+        close(alloc, &mut self.node, slot, &mut self.rooms, port)
     }
 
     /// The client provides the receive token that it has held longest, with a buffer of zero bytes. Running out of
@@ -74,7 +74,15 @@ impl ClientHost {
         ensures unchanged { OnErr result (self.new ≡ self.old) }
     {
         let slot = &mut self.clients[usize::from(port)];
-        provide(alloc, &mut self.node, slot, port, size, prio)
+        provide(
+            alloc,
+            &mut self.node,
+            slot,
+            &mut self.rooms,
+            port,
+            size,
+            prio,
+        )
     }
 
     /// The client sends so many bytes with the send token that it has held longest: byte i is the seed plus i, modulo

@@ -12,12 +12,19 @@ use crate::telling::{close_cause, minted_of};
 use gm_tokens::RecvToken;
 use nic_node::NicNode;
 use port_client::{Client, retire, take_back_recvs};
-use reg_mem::Reg;
+use reg_mem::{Reg, Rooms};
 use std::alloc::Global;
 use world_defs::{ClientCause, Said};
 
-/// Closes a port, and ends its client with all of its tokens. Takes no memory.
-pub(crate) fn close(alloc: Global, node: &mut NicNode, slot: &mut Option<Client>, port: u8) -> Said
+/// Closes a port, and ends its client with all of its tokens. The rooms of buffers in which nothing was written are
+/// kept. Takes no memory.
+pub(crate) fn close(
+    alloc: Global,
+    node: &mut NicNode,
+    slot: &mut Option<Client>,
+    rooms: &mut Rooms,
+    port: u8,
+) -> Said
     requires port { port < 8 }
     requires tied { IsTied node.old.host node.old.hosts port (port_at node.old.state port) slot.old }
     ensures said { result ≡ (closed node.old.state port (held_of slot.old)).said }
@@ -25,13 +32,19 @@ pub(crate) fn close(alloc: Global, node: &mut NicNode, slot: &mut Option<Client>
     ensures client { slot.new ≡ now_holding slot.old (closed node.old.state port (held_of slot.old)).client }
 {
     match minted_of(slot) {
-        Some(_minted) => close_open(alloc, node, slot, port),
+        Some(_minted) => close_open(alloc, node, slot, rooms, port),
         None => Said::Refused(ClientCause::NotOpen),
     }
 }
 
 // Closes an open port.
-fn close_open(alloc: Global, node: &mut NicNode, slot: &mut Option<Client>, port: u8) -> Said
+fn close_open(
+    alloc: Global,
+    node: &mut NicNode,
+    slot: &mut Option<Client>,
+    rooms: &mut Rooms,
+    port: u8,
+) -> Said
     requires port { port < 8 }
     requires tied { IsTied node.old.host node.old.hosts port (port_at node.old.state port) slot.old }
     requires few { IfSome slot.old (λ c. (c.minted_sends < 65536) × (c.minted_recvs < 65536)) }
@@ -43,7 +56,7 @@ fn close_open(alloc: Global, node: &mut NicNode, slot: &mut Option<Client>, port
     match node.close(port) {
         Ok(provided) => {
             let count = provided.len() as u32;
-            end_closed(alloc, slot, provided);
+            end_closed(alloc, slot, provided, rooms);
             Said::Count(count)
         }
         Err(refusal) => Said::Refused(close_cause(refusal)),
@@ -51,7 +64,12 @@ fn close_open(alloc: Global, node: &mut NicNode, slot: &mut Option<Client>, port
 }
 
 // Ends the client of a port that was closed, with the tokens that were provided.
-fn end_closed(alloc: Global, slot: &mut Option<Client>, provided: Vec<(RecvToken, Reg)>)
+fn end_closed(
+    alloc: Global,
+    slot: &mut Option<Client>,
+    provided: Vec<(RecvToken, Reg)>,
+    rooms: &mut Rooms,
+)
     requires own { IfSome slot.old (λ c. AreOwnWith c.host c.port provided.items) }
     requires sends { IfSome slot.old (λ c. IsEachOnce c.minted_sends c.held.sends) }
     requires recvs { IfSome slot.old (λ c. IsEachOnce c.minted_recvs (c.held.recvs ++ numbers_with provided.items)) }
@@ -61,7 +79,7 @@ fn end_closed(alloc: Global, slot: &mut Option<Client>, provided: Vec<(RecvToken
     match slot.take() {
         Some(client) => {
             let mut client = client;
-            take_back_recvs(&mut client, provided);
+            take_back_recvs(&mut client, provided, rooms);
             retire(alloc, client);
         }
         None => unreachable!(),

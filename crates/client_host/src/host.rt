@@ -16,6 +16,7 @@ use crate::ending::end_clients;
 use net_defs::Walk;
 use nic_node::{Arrival, Message, NicNode, Packet, RoutePart, Table};
 use port_client::Client;
+use reg_mem::Rooms;
 use std::alloc::{AllocError, Global};
 use std::marker::Model;
 
@@ -29,6 +30,8 @@ const PORTS: usize = 8;
 pub struct ClientHost {
     pub(crate) node: NicNode,
     pub(crate) clients: Vec<Option<Client>>,
+    // Rooms of buffers in which nothing was written, for buffers that are provided later.
+    pub(crate) rooms: Rooms,
 }
 
 impl Model for ClientHost {
@@ -50,7 +53,11 @@ impl ClientHost {
     {
         let node = NicNode::new(alloc, host, hosts)?;
         match no_clients(alloc) {
-            Ok(clients) => Ok(ClientHost { node, clients }),
+            Ok(clients) => Ok(ClientHost {
+                node,
+                clients,
+                rooms: Rooms::new(alloc),
+            }),
             Err(wanting) => {
                 node.end();
                 Err(wanting)
@@ -252,7 +259,11 @@ impl ClientHost {
 
     /// Spends the host and all tokens and buffers of its ports, those of open ports too. Takes no memory.
     pub fn end(self) {
-        let ClientHost { node, clients } = self;
+        let ClientHost {
+            node,
+            clients,
+            rooms: _,
+        } = self;
         end_clients(node, clients);
     }
 }

@@ -15,7 +15,8 @@ ghost use Rattle.client_host.specs.Tied.{held_of, now_holding, IsTied};
 use crate::telling::refused;
 use gm_tokens::RecvToken;
 use nic_node::NicNode;
-use port_client::{Client, zero_buffer};
+use port_client::{Client, zero_buffer_in};
+use reg_mem::Rooms;
 use std::alloc::{AllocError, Global};
 use world_defs::{ClientCause, Said};
 
@@ -25,6 +26,7 @@ pub(crate) fn provide(
     alloc: Global,
     node: &mut NicNode,
     slot: &mut Option<Client>,
+    rooms: &mut Rooms,
     port: u8,
     size: u8,
     prio: u8,
@@ -42,7 +44,7 @@ pub(crate) fn provide(
     ensures client_stays { OnErr result (slot.new ≡ slot.old) }
 {
     match slot {
-        Some(client) => provide_open(alloc, node, client, port, size, prio),
+        Some(client) => provide_open(alloc, node, client, rooms, port, size, prio),
         None => Ok(Said::Refused(ClientCause::NotOpen)),
     }
 }
@@ -52,6 +54,7 @@ fn provide_open(
     alloc: Global,
     node: &mut NicNode,
     client: &mut Client,
+    rooms: &mut Rooms,
     port: u8,
     size: u8,
     prio: u8,
@@ -70,7 +73,7 @@ fn provide_open(
     ensures client_stays { OnErr result (client.new ≡ client.old) }
 {
     match client.take_recv() {
-        Some(token) => match provide_token(alloc, node, port, token, size, prio) {
+        Some(token) => match provide_token(alloc, node, rooms, port, token, size, prio) {
             Ok(number) => Ok(Said::Token(number)),
             Err((token, cause)) => {
                 client.return_recv(token);
@@ -86,6 +89,7 @@ fn provide_open(
 fn provide_token(
     alloc: Global,
     node: &mut NicNode,
+    rooms: &mut Rooms,
     port: u8,
     token: RecvToken,
     size: u8,
@@ -113,7 +117,7 @@ fn provide_token(
     if is_bad_size(size, prio) {
         return Err((token, Some(ClientCause::BadSize)));
     }
-    match zero_buffer(alloc, size) {
+    match zero_buffer_in(alloc, size, rooms) {
         Ok(buffer) => {
             let number = token.number();
             match node.provide(port, token, buffer, size, prio) {

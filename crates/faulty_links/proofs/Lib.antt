@@ -1,3 +1,4 @@
 pub mod Arrivals
 pub mod HopsBelow
+pub mod Keys
 pub mod Parts

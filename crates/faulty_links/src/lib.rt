@@ -15,6 +15,7 @@
 //! | module | has |
 //! |---|---|
 //! | `plan` | the planned faults by injection |
+//! | `key` | the number of an injection, as a fault is found by it |
 //! | `counts` | injections, drops, strikes and harms |
 //! | `faulty` | the links with both: reading them, faults, injections, an advance |
 //! | `reach` | how far packets may still go |
@@ -23,6 +24,7 @@
 
 mod counts;
 mod faulty;
+mod key;
 mod laws;
 mod plan;
 mod reach;

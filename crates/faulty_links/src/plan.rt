@@ -5,6 +5,7 @@ ghost use Rattle.std.specs.Map.{lookup};
 ghost use Rattle.world_defs.specs.World.{with_fault, without_fault};
 ghost use Rattle.faulty_links.specs.Held.{pull_end};
 
+use crate::key::Key;
 use net_defs::End;
 use std::alloc::{AllocError, Global};
 use std::collections::BTreeMap;
@@ -14,7 +15,7 @@ use world_defs::Fault;
 /// Faults by the number of the injection that they are for, one for each at most.
 #[derive(Drop)]
 pub(crate) struct Plan {
-    faults: BTreeMap<u128, Fault>,
+    faults: BTreeMap<Key, Fault>,
 }
 
 impl Model for Plan {
@@ -43,18 +44,26 @@ impl Plan {
         self.faults.len() as u64
     }
 
-    /// The fault for an injection.
+    /// The fault for an injection. Most worlds have none planned, where nothing is searched.
+    #[tactic(auto, using(crate::proofs::Keys::none_planned))]
     pub(crate) fn at(&self, number: u64) -> Option<Fault>
         ensures { result ≡ lookup (nat_eq number) self.now }
     {
-        self.faults.get(&u128::from(number)).copied()
+        if self.faults.is_empty() {
+            return None;
+        }
+        self.faults.get(&Key::of_word(number)).copied()
     }
 
     /// The port of the pull that is planned for an injection; none where another fault is planned, or no fault.
+    #[tactic(auto, using(crate::proofs::Keys::none_planned))]
     pub(crate) fn pull_at(&self, number: u128) -> Option<End>
         ensures { result ≡ pull_end (lookup (nat_eq number) self.now) }
     {
-        pull_end(self.faults.get(&number).copied())
+        if self.faults.is_empty() {
+            return None;
+        }
+        pull_end(self.faults.get(&Key::of(number)).copied())
     }
 
     /// Plans a fault for an injection, in the place of an earlier one.
@@ -62,17 +71,21 @@ impl Plan {
         ensures ok { OnOk result (self.new ≡ with_fault number fault self.old) }
         ensures err { OnErr result (self.new ≡ self.old) }
     {
-        match self.faults.insert(number, fault) {
+        match self.faults.insert(Key::of(number), fault) {
             Ok(_) => Ok(()),
             Err(_) => Err(AllocError),
         }
     }
 
     /// Plans no fault for an injection any more.
+    #[tactic(auto, using(crate::proofs::Keys::nothing_removed))]
     pub(crate) fn remove(&mut self, number: u64)
         ensures { self.new ≡ without_fault number self.old }
     {
-        let _ = self.faults.remove(&u128::from(number));
+        if self.faults.is_empty() {
+            return;
+        }
+        let _ = self.faults.remove(&Key::of_word(number));
     }
 }
 

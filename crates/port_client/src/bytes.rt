@@ -5,7 +5,7 @@ ghost use Rattle.gm_defs.specs.Body.{message_limit};
 ghost use Rattle.world_defs.specs.Client.{client_bytes, empty_buffer};
 
 use gm_defs::counted_bytes;
-use reg_mem::{Reg, counted, zeroed};
+use reg_mem::{Reg, Rooms, counted, zeroed, zeroed_in};
 use std::alloc::{AllocError, Global};
 
 /// The bytes of a client's message: the first is the seed, and each is one more than the one before it, modulo 256.
@@ -31,4 +31,13 @@ pub fn zero_buffer(alloc: Global, size: u8) -> Result<Reg, AllocError>
     ensures { IfOk result (λ r. r ≡ empty_buffer size) }
 {
     zeroed(alloc, (1usize << size).saturating_sub(8))
+}
+
+/// The same, in room that an earlier buffer left, where there is some.
+pub fn zero_buffer_in(alloc: Global, size: u8, rooms: &mut Rooms) -> Result<Reg, AllocError>
+    requires least { 4 ≤ size }
+    requires greatest { size ≤ 16 }
+    ensures { IfOk result (λ r. r ≡ empty_buffer size) }
+{
+    zeroed_in(alloc, (1usize << size).saturating_sub(8), rooms)
 }

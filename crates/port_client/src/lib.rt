@@ -20,7 +20,7 @@ mod client_port;
 mod held;
 mod returning;
 
-pub use bytes::{client_buffer, client_bytes, zero_buffer};
+pub use bytes::{client_buffer, client_bytes, zero_buffer, zero_buffer_in};
 pub use client::Client;
 pub use client_port::ClientPort;
 pub use gm_port::{PortEvent, SendAsk, Wreck};

@@ -13,7 +13,7 @@ use crate::client::Client;
 use gm_defs::Blob;
 use gm_port::{PortEvent, Wreck};
 use gm_tokens::{RecvToken, SendToken};
-use reg_mem::{Reg, deregister, release};
+use reg_mem::{Reg, Rooms, deregister, release, release_into};
 use std::alloc::Global;
 use std::collections::VecDeque;
 use world_defs::Said;
@@ -32,8 +32,9 @@ pub(crate) fn take_back_sends(client: &mut Client, sending: Vec<(SendToken, Reg)
     rest.destroy_empty();
 }
 
-/// Takes provided tokens back behind those that the client holds.
-pub fn take_back_recvs(client: &mut Client, provided: Vec<(RecvToken, Reg)>)
+/// Takes provided tokens back behind those that the client holds, and keeps the rooms of buffers in which nothing was
+/// written.
+pub fn take_back_recvs(client: &mut Client, provided: Vec<(RecvToken, Reg)>, rooms: &mut Rooms)
     requires own { AreOwnWith client.old.host client.old.port provided.items }
     requires room { length client.old.held.recvs + length provided.items ≤ client.old.minted_recvs }
     ensures { client.new ≡ with_recvs client.old (client.old.held.recvs ++ numbers_with provided.items) }
@@ -41,7 +42,7 @@ pub fn take_back_recvs(client: &mut Client, provided: Vec<(RecvToken, Reg)>)
     let mut rest = VecDeque::from_vec(provided);
     while let Some((token, buffer)) = rest.pop_front() {
         client.give_back_recv(token);
-        release(buffer);
+        release_into(buffer, rooms);
     }
     rest.destroy_empty();
 }
@@ -112,7 +113,7 @@ pub fn end_wreck(alloc: Global, mut client: Client, wreck: Wreck)
         events,
     } = wreck;
     take_back_sends(&mut client, sending);
-    take_back_recvs(&mut client, provided);
+    take_back_recvs(&mut client, provided, &mut Rooms::new(alloc));
     take_back_events(&mut client, events);
     retire(alloc, client);
 }

@@ -1,6 +1,6 @@
 //! Where the bytes of a buffer are.
 
-ghost use Rattle.std.specs.Prelude.{◌≡◌, ◌+◌, ◌≤◌, [], length, replicate, take, true, IfOk, vec_capacity};
+ghost use Rattle.std.specs.Prelude.{◌≡◌, ◌+◌, ◌≤◌, ◌++◌, [], length, replicate, take, true, IfOk, vec_capacity};
 ghost use Rattle.reg_mem.specs.Written.{written};
 ghost use Rattle.reg_mem.specs.Held.{held_bytes, HasRoom, IsRoomy, is_own};
 
@@ -10,6 +10,9 @@ use std::mem;
 
 /// How many zeros can be held unwritten.
 pub(crate) const MOST_ZEROS: usize = 65_536;
+
+// How many zeros are written at once.
+const PIECE: usize = 1_024;
 
 static ZEROS: [u8; MOST_ZEROS] = [0; MOST_ZEROS];
 
@@ -71,7 +74,7 @@ pub(crate) fn into_shared(alloc: Global, held: Held) -> (Held, bool)
 {
     match held {
         Held::Own(bytes) => share(alloc, bytes),
-        Held::Zeros(len, mut room) => share(alloc, filled(&mut room, zeros(len as usize))),
+        Held::Zeros(len, mut room) => share(alloc, zero_filled(&mut room, len as usize)),
         Held::Counted(first, len, room) => (Held::Counted(first, len, room), true),
         Held::Shared(both) => (Held::Shared(both), true),
     }
@@ -119,7 +122,7 @@ pub(crate) fn into_bytes(held: Held) -> Vec<u8>
 {
     match held {
         Held::Own(bytes) => bytes,
-        Held::Zeros(len, mut room) => filled(&mut room, zeros(len as usize)),
+        Held::Zeros(len, mut room) => zero_filled(&mut room, len as usize),
         Held::Counted(first, len, mut room) => {
             filled(&mut room, counted_bytes(first, len as usize))
         }
@@ -150,7 +153,7 @@ fn part(held: &mut Held)
     match held {
         Held::Own(_) => {}
         Held::Zeros(len, room) => {
-            let bytes = filled(room, zeros(*len as usize));
+            let bytes = zero_filled(room, *len as usize);
             *held = Held::Own(bytes);
         }
         Held::Counted(first, len, room) => {
@@ -175,6 +178,36 @@ fn filled(room: &mut Vec<u8>, bytes: &[u8]) -> Vec<u8>
     mem::swap(room, &mut whole);
     match whole.extend_from_slice(bytes) {
         Ok(()) => whole,
+        Err(_) => unreachable!(),
+    }
+}
+
+// So many zeros, in the room that was taken for them. They are written piece by piece: a short piece is written by wide
+// stores.
+fn zero_filled(room: &mut Vec<u8>, len: usize) -> Vec<u8>
+    requires empty { room.old.items ≡ [] }
+    requires room { len ≤ vec_capacity room.old }
+    requires few { len ≤ 65536 }
+    ensures { result.items ≡ replicate len 0 }
+{
+    let mut whole = Vec::new(*room.allocator());
+    mem::swap(room, &mut whole);
+    'zeroing: while whole.len() < len {
+        let count = (len - whole.len()).min(PIECE);
+        append_zeros(&mut whole, count);
+    }
+    whole
+}
+
+// So many zeros after others, where there is room for them.
+fn append_zeros(whole: &mut Vec<u8>, count: usize)
+    requires few { count ≤ 65536 }
+    requires room { length whole.old.items + count ≤ vec_capacity whole.old }
+    ensures zeros { whole.new.items ≡ whole.old.items ++ replicate count 0 }
+    ensures capacity { vec_capacity whole.old ≤ vec_capacity whole.new }
+{
+    match whole.extend_from_slice(zeros(count)) {
+        Ok(()) => {}
         Err(_) => unreachable!(),
     }
 }

@@ -18,5 +18,7 @@
 
 mod held;
 mod reg;
+mod rooms;
 
-pub use reg::{Reg, counted, deregister, register, release, zeroed};
+pub use reg::{Reg, counted, deregister, register, release, release_into, zeroed, zeroed_in};
+pub use rooms::Rooms;

@@ -5,6 +5,7 @@ ghost use Rattle.gm_defs.specs.Blob.{counted};
 ghost use Rattle.reg_mem.specs.Written.{written};
 
 use crate::held::{Held, MOST_ZEROS, into_bytes, into_shared, write};
+use crate::rooms::Rooms;
 use gm_defs::Blob;
 use std::alloc::{AllocError, Global};
 use std::marker::Model;
@@ -52,6 +53,18 @@ pub fn zeroed(alloc: Global, len: usize) -> Result<Reg, AllocError>
     Ok(Reg { held })
 }
 
+/// A buffer of so many zeros, none of which is written before something else is. Its room is one that an earlier buffer
+/// left, or a new one.
+pub fn zeroed_in(alloc: Global, len: usize, rooms: &mut Rooms) -> Result<Reg, AllocError>
+    requires { len ≤ 65536 }
+    ensures { IfOk result (λ r. r ≡ replicate len 0) }
+{
+    let room = rooms.take(alloc, len)?;
+    Ok(Reg {
+        held: Held::Zeros(len as u32, room),
+    })
+}
+
 /// A buffer of so many bytes that count up from one, modulo 256, as those of a client's message do. None of them is
 /// written before something else is: until then the buffer takes room, and no more.
 pub fn counted(alloc: Global, first: u8, len: usize) -> Result<Reg, AllocError>
@@ -76,6 +89,14 @@ pub fn deregister(r: Reg) -> Vec<u8>
 /// Lets a buffer go with its bytes, which nobody wants. Copies none.
 pub fn release(r: Reg) {
     let Reg { held: _ } = r;
+}
+
+/// Lets a buffer go, as [`release`] does. The room of zeros that weren't written is kept for later buffers.
+pub fn release_into(r: Reg, rooms: &mut Rooms) {
+    let Reg { held } = r;
+    if let Held::Zeros(_, room) = held {
+        rooms.keep(room);
+    }
 }
 
 impl Reg {

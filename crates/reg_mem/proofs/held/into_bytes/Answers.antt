@@ -3,8 +3,8 @@ use Rattle.gm_defs.proofs.Rounds.{counted-length}
 use Rattle.reg_mem.specs.Held.{HasRoom}
 use Rattle.reg_mem.proofs.held.into_bytes.Goals as goal
 
-pub filled-requires-in-Counted-clause-room : goal.filled-requires-in-Counted-clause-room
-filled-requires-in-Counted-clause-room c =
+pub filled-requires-clause-room : goal.filled-requires-clause-room
+filled-requires-clause-room c =
     let held = subst HasRoom c.in-Counted.is c.requires in
     let room = held.1 in
     let long : length c.counted_bytes.result.now ≡ c.in-Counted.len = ap length c.counted_bytes.ensures ∙ counted-length c.in-Counted.first c.in-Counted.len in
