@@ -7,6 +7,8 @@ use Rattle.mapper.specs.declared.mapping.MapEnd.{MapEnd}
 use Rattle.mapper.specs.declared.mapping.MapEnd.TheVariants.{Closed, OpenAtDepth, OpenAtNodes}
 use Rattle.run_defs.specs.Mapped.{IsCalled}
 use Rattle.run_defs.specs.Mapped.IsCalled.{too_many_nodes, too_shallow, doubted, right}
+use Rattle.journal_defs.specs.Growth.{IsEndedAtLimit}
+use Rattle.run_defs.specs.declared.line.MapWords.{MapWords}
 use Rattle.run_defs.specs.declared.line.MapWords.TheVariants.{Complete, Doubtful, IncompleteDepth, IncompleteNodes}
 
 module _ (drowned : ℕ) (end : MapEnd) (host : ℕ) (j : List Entry) (is : IsEnd host j end) where
@@ -21,6 +23,13 @@ module _ (drowned : ℕ) (end : MapEnd) (host : ℕ) (j : List Entry) (is : IsEn
 
   pub called-complete : end ≡ Closed → drowned ≡ 0 → IsCalled host j drowned Complete
   called-complete e none = let closed = subst (IsEnd host j) e is in right closed.0 closed.1 none
+
+-- a map that is called complete ended within the limit of nodes
+pub complete-within : (host : ℕ) (j : List Entry) (drowned : ℕ) (words : MapWords) → IsCalled host j drowned words → words ≡ Complete → ¬ IsEndedAtLimit j
+complete-within host j drowned words (too_many_nodes l) e = cc
+complete-within host j drowned words (too_shallow l c) e = l
+complete-within host j drowned words (doubted l c some) e = l
+complete-within host j drowned words (right l c none) e = l
 
 risen-one : Rose 0 0 → ⊥
 risen-one r = omega (arith, r)

@@ -14,7 +14,7 @@ ghost use Rattle.map_making.specs.Made.{IsMade};
 
 use core_map::mark_core;
 use fabric_map::FabricMap;
-use mapper::{MapEnd, map};
+use mapper::{MapEnd, map_within};
 use probe::Prober;
 use run_defs::MapWords;
 use std::alloc::{AllocError, Global};
@@ -22,7 +22,7 @@ use std::alloc::{AllocError, Global};
 /// A map with its core marked, what it may be called, and how many asks it took.
 #[derive(Drop)]
 pub struct MadeMap {
-    /// The map of what was found, with its core marked.
+    /// The map of what was found, with its core marked; without vertices where the tree had too many nodes.
     pub map: FabricMap,
     /// How far it is known to be right, as a report says it.
     pub words: MapWords,
@@ -33,7 +33,7 @@ pub struct MadeMap {
 /// Maps from the prober's host to a depth of so many cables, marks the core, and says what the map may be called.
 ///
 /// A map that is called complete is the host's part of the fabric, the ports of each switch counted from elsewhere.
-/// While no ask drowns, a depth of Q + D + 1 makes it complete, where the fabric is small enough. The prober's count
+/// None is made of a tree of too many nodes. While no ask drowns, a depth of Q + D + 1 makes it complete, where the fabric is small enough. The prober's count
 /// of drowned asks begins at 0, since each ask that drowns makes the map doubtful. Where it runs out of memory, the map
 /// is lost, and the prober was asked a part of its asks, or all.
 pub fn make_map<P: Prober>(alloc: Global, p: &mut P, depth: u8) -> Result<MadeMap, AllocError>
@@ -55,7 +55,7 @@ pub fn make_map<P: Prober>(alloc: Global, p: &mut P, depth: u8) -> Result<MadeMa
     ensures stays_ready { OnOk result (P.ready p.new) }
 {
     let _host = p.host();
-    let mapped = map(alloc, p, depth)?;
+    let mapped = map_within(alloc, p, depth)?;
     let words = words_of(mapped.end, p.drowned());
     let asks = mapped.journal.entries().len() as u64;
     let map = marked(alloc, mapped.map)?;

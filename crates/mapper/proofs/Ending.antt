@@ -1,6 +1,6 @@
 -- What a journal that has grown is worth: it is short, its end says whether it is closed, and memory may run out after it.
 use Rattle.std.proofs.Common.{◌≡◌, ◌<◌, ◌≤◌, ℕ, List, [], ◌∷◌, ◌++◌, length, Bool, true, false, if◌then◌else◌, subst, ap, refl, arith, ◌⊎◌, inl, inr}
-use Rattle.std.specs.Prelude.{ℤ, nat_lt}
+use Rattle.std.specs.Prelude.{ℤ, nat_lt, not, ◌||◌, ◌↔◌, IsTrue, Result, Ok, Err, IfOk}
 use Rattle.std.proofs.lemmas.Bool.Decides.{nat_tests}
 use Rattle.net_defs.specs.declared.place.Answer.{Answer}
 use Rattle.net_defs.specs.Network.{Network, IsFabric}
@@ -53,6 +53,10 @@ stops-grown S asked cut host depth j before after g led = between_asks j g.growi
 pub closed-end : (host : ℕ) (j : List Entry) (end : MapEnd) → IsEnd host j end → end ≡ Closed → IsClosed host j
 closed-end host j end e is = (subst (IsEnd host j) is e).1
 
+-- within the limit of nodes
+pub closed-within : (host : ℕ) (j : List Entry) (end : MapEnd) → IsEnd host j end → end ≡ Closed → ¬ IsEndedAtLimit j
+closed-within host j end e is = (subst (IsEnd host j) is e).0
+
 -- and a journal that is closed within the limit ends so
 pub ends-closed : (host depth : ℕ) (j : List Entry) (end : MapEnd) → EndsClosed host depth j → IsEnd host j end → end ≡ Closed
 ends-closed host depth j OpenAtNodes c e = absurd (c.not_at_limit e)
@@ -72,3 +76,30 @@ module _ (n : Network) (host depth : ℕ) (j : List Entry) (fabric : IsFabric n)
 
   pub deep-one : IsOneDeeper n host depth j
   deep-one more l below t g = grown_journal_is_one n host more l j t truth g (deep-ends.deeper more below)
+
+-- a map is made always, or unless the growth ended at the limit of nodes
+pub made_if : (j : List Entry) (at_limit always made : Bool) → IsTrue at_limit ↔ IsEndedAtLimit j → made ≡ (always || not at_limit) → (always ≡ true) ⊎ (¬ IsEndedAtLimit j) → made ≡ true
+made_if j true true made is e wanted = e
+made_if j false true made is e wanted = e
+made_if j true false made is e (inl always) = cc
+made_if j true false made is e (inr within) = absurd (within (is.0 refl))
+made_if j false false made is e wanted = e
+
+pub none_if : (j : List Entry) (at_limit always made : Bool) → IsTrue at_limit ↔ IsEndedAtLimit j → made ≡ (always || not at_limit) → always ≡ false → IsEndedAtLimit j → made ≡ false
+none_if j true true made is e never limit = cc
+none_if j false true made is e never limit = cc
+none_if j true false made is e never limit = e
+none_if j false false made is e never limit = let bad : false ≡ true = is.1 limit in cc
+
+-- a map that is made always, and one that is made within the limit alone
+pub made-always : {M E : Type 0} (A Q : M → Type 0) (r : Result M E) → IfOk r (λ m. (true ≡ true) ⊎ A m → Q m) → IfOk r Q
+made-always A Q (Ok m) f = f (inl refl)
+made-always A Q (Err e) f = tt
+
+pub made-within : {M E : Type 0} (A Q : M → Type 0) (r : Result M E) → IfOk r (λ m. (false ≡ true) ⊎ A m → Q m) → IfOk r (λ m. A m → Q m)
+made-within A Q (Ok m) f = λ a. f (inr a)
+made-within A Q (Err e) f = tt
+
+pub none-beyond : {M E : Type 0} (A Q : M → Type 0) (r : Result M E) → IfOk r (λ m. false ≡ false → A m → Q m) → IfOk r (λ m. A m → Q m)
+none-beyond A Q (Ok m) f = f refl
+none-beyond A Q (Err e) f = tt

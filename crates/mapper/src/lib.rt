@@ -32,5 +32,5 @@ mod walks;
 
 pub use growth::{Grown, grow};
 pub use map_quotient::FabricMap;
-pub use mapping::{MapEnd, Mapped, map};
+pub use mapping::{MapEnd, Mapped, map, map_within};
 pub use walks::{TURNS, empty_walk, turn_at};

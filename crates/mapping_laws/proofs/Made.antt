@@ -14,6 +14,7 @@ use Rattle.journal_defs.specs.Tree.{reached}
 use Rattle.journal_defs.specs.Growth.{IsGrown, IsGrowing, IsEndedByDepth, IsEndedAtLimit, IsClosed}
 use Rattle.journal_defs.specs.Growth.IsGrowing.{nothing, more}
 use Rattle.journal_defs.proofs.Members.{IsMember, all-from-members, all-map}
+use Rattle.fabric_map.specs.Growing.{empty_map}
 use Rattle.map_defs.specs.NetMap.{NetMap, IsMap, IsConnected}
 use Rattle.map_defs.specs.Core.{core_of}
 use Rattle.map_defs.specs.Sameness.{IsMapOfPart}
@@ -93,27 +94,64 @@ found_is_there host depth tries before after j m words can made = subst (λ n. I
 pub undrowned_is_true : UndrownedIsTrue
 undrowned_is_true host depth tries before after j m words can made none = subst (λ n. IsTrueJournal n host j) (then_is host depth tries before after j m words can made) ((asked-so host depth tries before after j m words can made).truth none)
 
+-- a journal that its depth ended is within the limit of nodes
+pub ended-within : (host depth : ℕ) (j : List Entry) → IsEndedByDepth host depth j → ¬ IsEndedAtLimit j
+ended-within host depth j e limit = let kept = e.kept in let passed = limit.passed in absurd (omega (arith, kept, passed))
+
+-- a grown journal ended at the limit, or within it
+pub at-limit : (host depth : ℕ) (j : List Entry) → IsGrown host depth j → IsEndedAtLimit j ⊎ (¬ IsEndedAtLimit j)
+at-limit host depth j g = by g.ended
+  where
+    by : IsEndedByDepth host depth j ⊎ IsEndedAtLimit j → IsEndedAtLimit j ⊎ (¬ IsEndedAtLimit j)
+    by (inl e) = inr (ended-within host depth j e)
+    by (inr l) = inl l
+
+-- the map without vertices keeps all rules
+empty-is-map : IsMap empty_map
+empty-is-map = record {
+  hosts_once = tt;
+  switches_numbered = refl;
+  one_mark_each = refl;
+  hosts_marked = λ v h e. cc;
+  cabled_vertices = tt;
+  ports_once = tt;
+  host_ports = tt;
+  ports_in_range = tt;
+  ports_near = tt;
+}
+
 pub made_map_is_map : MadeMapIsMap
-made_map_is_map host depth tries before after j m words can made =
-    let found = found_is_there host depth tries before after j m words can made in
-    subst IsMap (sym made.marked) (marked_map_is_map made.unmarked (quotient_is_map (fabric_of before) host j made.unmarked (now_is_fabric before.links.cables can.history) found made.quotient))
+made_map_is_map host depth tries before after j m words can made = by (at-limit host depth j made.grown)
+  where
+    by : IsEndedAtLimit j ⊎ (¬ IsEndedAtLimit j) → IsMap m
+    by (inl l) = subst IsMap (sym (made.beyond l)) empty-is-map
+    by (inr l) =
+        let k = made.within l in
+        let found = found_is_there host depth tries before after j m words can made in
+        subst IsMap (sym k.marked) (marked_map_is_map k.unmarked (quotient_is_map (fabric_of before) host j k.unmarked (now_is_fabric before.links.cables can.history) found k.quotient))
 
 pub made_map_is_connected : MadeMapIsConnected
-made_map_is_connected host depth tries before after j m words made =
-    subst IsConnected (sym made.marked) (λ v l. (let r = quotient_is_connected host depth j made.unmarked made.grown made.quotient v l in record { cables = r.cables; path = r.path }))
+made_map_is_connected host depth tries before after j m words made = by (at-limit host depth j made.grown)
+  where
+    by : IsEndedAtLimit j ⊎ (¬ IsEndedAtLimit j) → IsConnected m
+    by (inl l) = subst IsConnected (sym (made.beyond l)) (λ v low. absurd (omega (arith, low)))
+    by (inr l) =
+        let k = made.within l in
+        subst IsConnected (sym k.marked) (λ v low. (let r = quotient_is_connected host depth j k.unmarked made.grown k.quotient v low in record { cables = r.cables; path = r.path }))
 
 -- when a map is called complete
-complete-parts : (host : ℕ) (j : List Entry) (drowned : ℕ) → IsCalled host j drowned Complete → (drowned ≡ 0) × IsClosed host j
-complete-parts host j drowned (right l c none) = (none, c)
+complete-parts : (host : ℕ) (j : List Entry) (drowned : ℕ) → IsCalled host j drowned Complete → (drowned ≡ 0) × IsClosed host j × (¬ IsEndedAtLimit j)
+complete-parts host j drowned (right l c none) = (none, c, l)
 
 pub made_map_is_right : MadeMapIsRight
 made_map_is_right host depth tries before after j m can made =
     let n : Network = fabric_of before in
-    let k : NetMap = made.unmarked in
     let parts = complete-parts host j made.drowned made.called in
+    let marked = made.within parts.2 in
+    let k : NetMap = marked.unmarked in
     let truth = undrowned_is_true host depth tries before after j m Complete can made parts.0 in
-    let unmarked = closed_map_is_right n host depth j k (now_is_fabric before.links.cables can.history) truth made.grown parts.1 made.quotient in
-    subst (IsMapOfPart n host) (sym made.marked)
+    let unmarked = closed_map_is_right n host depth j k (now_is_fabric before.links.cables can.history) truth made.grown parts.1 marked.quotient in
+    subst (IsMapOfPart n host) (sym marked.marked)
     (same_map_is_right n host k (record k { core = core_of k }) (marks_do_not_matter (record k { core = core_of k }) k refl refl) unmarked)
 
 pub mapping_keeps : MappingKeeps

@@ -413,7 +413,7 @@ pub marks_are_right : MarksAreRight
 marks_are_right n commands host m f p same v l =
     let a = mapping-of n commands host Complete m f p in
     let rules : IsMap m = made_map_is_map host a.depth a.tries a.before a.after a.journal m Complete a.can a.mapped in
-    let cores : m.core ≡ core_of m = ap (λ (x : NetMap). x.core) a.mapped.marked ∙ sym (ap core_of a.mapped.marked) in
+    let cores : m.core ≡ core_of m = ap (λ (x : NetMap). x.core) a.made.marked ∙ sym (ap core_of a.made.marked) in
     let now : Network = fabric_of p.session.world in
     let fair : IsFabric now = now_is_fabric p.session.world.links.cables (run_keeps_world n commands p.out p.session f p.over p.run).history in
     marked (is_outside m v) (slice_get m.core v) (IsCutOff now (same.image v)) (ap (λ cs. slice_get cs v) cores ∙ mark-at m v l) (outside_is_cut_off now host m fair rules same v l)

@@ -22,15 +22,15 @@ use Rattle.run_defs.specs.declared.command.Command.TheVariants.{Map}
 use Rattle.run_defs.specs.declared.line.Line.TheVariants.{Map as MapLine, MapBusy}
 use Rattle.run_defs.specs.declared.line.MapWords.{MapWords}
 use Rattle.run_defs.specs.declared.line.MapWords.TheVariants.{Complete, Doubtful, IncompleteDepth, IncompleteNodes}
-use Rattle.run_defs.specs.Mapped.{IsMapped, IsCalled}
-use Rattle.run_defs.specs.Mapped.IsCalled.{right}
+use Rattle.run_defs.specs.Mapped.{IsMapped, IsMarkedMap, IsCalled}
+use Rattle.run_defs.specs.Mapped.IsCalled.{too_many_nodes, too_shallow, doubted, right}
 use Rattle.run_defs.specs.Output.{Piece, OneLine, MapLines}
 use Rattle.run_defs.specs.Session.{SessionState}
 use Rattle.run_defs.specs.Deed.{says}
 use Rattle.run_defs.specs.Outcome.{Outcome, seen, outcome}
 use Rattle.run_defs.specs.Run.{map_pieces}
 use Rattle.run_defs.proofs.Doing.{Doing, doing}
-use Rattle.run_defs.proofs.Doing.Doing.{determined, maps}
+use Rattle.run_defs.proofs.Doing.Doing.{determined, maps, circuits, routes}
 use Rattle.mapping_laws.specs.Laws.{CanMap}
 use Rattle.mapping_laws.specs.Runs.{IsSessionOf}
 use Rattle.mapping_laws.proofs.Made.{found_is_there, undrowned_is_true}
@@ -44,6 +44,7 @@ pub record IsMade (s next : SessionState) (host depth tries : ℕ) (words : MapW
   pub idle : is_idle s.world.links ≡ true
   pub journal : List Entry
   pub mapped : IsMapped host depth tries s.world next.world journal m words
+  pub shown : words ≡ IncompleteNodes → ⊥
 
 abbrev map_out : ℕ → MapWords → ℕ → ℕ → NetMap → List Piece
 map_out host words asks packets m = OneLine (MapLine host words asks packets) ∷ MapLines m ∷ []
@@ -55,6 +56,34 @@ pieces-map (Doubtful n) k m e = cc
 pieces-map IncompleteDepth k m e = cc
 pieces-map IncompleteNodes k m e = cc
 
+-- it isn't called incomplete for its nodes
+not-by-nodes : (x words : MapWords) (k m : NetMap) → x ≡ words → map_pieces x k ≡ MapLines m ∷ [] → words ≡ IncompleteNodes → ⊥
+not-by-nodes Complete words k m called e is = cc
+not-by-nodes (Doubtful n) words k m called e is = cc
+not-by-nodes IncompleteDepth words k m called e is = cc
+not-by-nodes IncompleteNodes words k m called e is = cc
+
+-- so its journal ended within the limit of nodes
+within-limit : (host : ℕ) (j : List Entry) (drowned : ℕ) (words : MapWords) → IsCalled host j drowned words → (words ≡ IncompleteNodes → ⊥) → ¬ IsEndedAtLimit j
+within-limit host j drowned words (too_many_nodes l) shown = absurd (shown refl)
+within-limit host j drowned words (too_shallow l c) shown = l
+within-limit host j drowned words (doubted l c some) shown = l
+within-limit host j drowned words (right l c none) shown = l
+
+marked-of : (host depth tries : ℕ) (before after : WorldState) (j : List Entry) (m : NetMap) (words : MapWords) → IsMapped host depth tries before after j m words → (words ≡ IncompleteNodes → ⊥) → IsMarkedMap host j m
+marked-of host depth tries before after j m words made shown = made.within (within-limit host j made.drowned words made.called shown)
+
+-- a mapping by equal orders, worlds, maps and words
+moved : (h host d depth t tries : ℕ) (before after v : WorldState) (j : List Entry) (k m : NetMap) (x words : MapWords) → h ≡ host → d ≡ depth → t ≡ tries → after ≡ v → k ≡ m → x ≡ words
+    → IsMapped h d t before after j k x → IsMapped host depth tries before v j m words
+moved h host d depth t tries before after v j k m x words at deep tried world one called made =
+    subst (λ w. IsMapped host depth tries before w j m words) world
+    (subst (λ y. IsMapped host depth tries before after j m y) called
+    (subst (λ y. IsMapped host depth tries before after j y x) one
+    (subst (λ y. IsMapped host depth y before after j k x) tried
+    (subst (λ y. IsMapped host y t before after j k x) deep
+    (subst (λ y. IsMapped y d t before after j k x) at made)))))
+
 abbrev rest_of : List Piece → List Piece
 rest_of [] = []
 rest_of (p ∷ ps) = ps
@@ -64,13 +93,31 @@ abbrev printed_by : Option Outcome → List Piece
 printed_by None = []
 printed_by (Some o) = o.output
 
-made-so : {s next : SessionState} {out : List Piece} → (host depth tries : ℕ) (words : MapWords) (asks packets : ℕ) (m : NetMap) → out ≡ map_out host words asks packets m → Doing s (Map host depth tries) out next → IsMade s next host depth tries words m
-made-so {s = s} {next = next} {out = out} host depth tries words asks packets m says_so (determined e) = by (is_idle s.world.links) refl
+-- a map that was made, of what its command printed and left
+maps-made : (s next : SessionState) (h host d depth t tries : ℕ) (words : MapWords) (asks packets : ℕ) (m : NetMap) (after : WorldState) (j : List Entry) (k : NetMap) (x : MapWords) → Map h d t ≡ Map host depth tries
+    → is_idle s.world.links ≡ true → IsMapped h d t s.world after j k x → OneLine (MapLine h x (length j) (after.injected - s.world.injected)) ∷ map_pieces x k ≡ map_out host words asks packets m → next.world ≡ after
+    → IsMade s next host depth tries words m
+maps-made s next h host d depth t tries words asks packets m after j k x is idle made both world =
+    let at : h ≡ host = cc in
+    let deep : d ≡ depth = cc in
+    let tried : t ≡ tries = cc in
+    let called : x ≡ words = cc in
+    let one : k ≡ m = pieces-map x k m (ap rest_of both) in
+    record {
+      idle = idle;
+      journal = j;
+      mapped = moved h host d depth t tries s.world after next.world j k m x words at deep tried (sym world) one called made;
+      shown = not-by-nodes x words k m called (ap rest_of both);
+    }
+
+-- a map that is refused prints none
+refused-none : (s next : SessionState) (out : List Piece) (host depth tries : ℕ) (words : MapWords) (asks packets : ℕ) (m : NetMap) → out ≡ map_out host words asks packets m → outcome s (Map host depth tries) ≡ Some (record { output = out; after = next }) → ⊥
+refused-none s next out host depth tries words asks packets m says_so e = by (is_idle s.world.links) refl
   where
     got : Outcome
     got = record { output = out; after = next }
 
-    by : (idle : Bool) → is_idle s.world.links ≡ idle → IsMade s next host depth tries words m
+    by : (idle : Bool) → is_idle s.world.links ≡ idle → ⊥
     by true i =
         let none : outcome s (Map host depth tries) ≡ None = ap (λ b. option_map (seen s) (if b then None else Some (says (MapBusy host ∷ [])))) i in
         let bad : None ≡ Some got = sym none ∙ e in
@@ -79,16 +126,17 @@ made-so {s = s} {next = next} {out = out} host depth tries words asks packets m 
         let busy : outcome s (Map host depth tries) ≡ Some (seen s (says (MapBusy host ∷ []))) = ap (λ b. option_map (seen s) (if b then None else Some (says (MapBusy host ∷ [])))) i in
         let bad : OneLine (MapBusy host) ∷ [] ≡ map_out host words asks packets m = ap printed_by (sym busy ∙ e) ∙ says_so in
         cc
-made-so {s = s} {next = next} host depth tries words asks packets m says_so (maps after j k x idle made printed left) =
-    let both : OneLine (MapLine host x (length j) (after.injected - s.world.injected)) ∷ map_pieces x k ≡ map_out host words asks packets m = sym printed ∙ says_so in
-    let called : x ≡ words = cc in
-    let one : k ≡ m = pieces-map x k m (ap rest_of both) in
-    let world : after ≡ next.world = sym (ap (λ (t : SessionState). t.world) left) in
-    record {
-      idle = idle;
-      journal = j;
-      mapped = subst (λ w. IsMapped host depth tries s.world w j m words) world (subst (λ y. IsMapped host depth tries s.world after j m y) called (subst (λ y. IsMapped host depth tries s.world after j y x) one made));
-    }
+
+made-by : {s next : SessionState} {c : Command} {out : List Piece} → (host depth tries : ℕ) (words : MapWords) (asks packets : ℕ) (m : NetMap) → c ≡ Map host depth tries → out ≡ map_out host words asks packets m → Doing s c out next → IsMade s next host depth tries words m
+made-by {s = s} {next = next} {c = c} {out = out} host depth tries words asks packets m is says_so (determined e) =
+    absurd (refused-none s next out host depth tries words asks packets m says_so (subst (λ (x : Command). outcome s x ≡ Some (record { output = out; after = next })) is e))
+made-by {s = s} {next = next} host depth tries words asks packets m is says_so (maps {host = h} {depth = d} {tries = t} after j k x idle made printed left) =
+    maps-made s next h host d depth t tries words asks packets m after j k x is idle made (sym printed ∙ says_so) (ap (λ (t : SessionState). t.world) left)
+made-by host depth tries words asks packets m is says_so (circuits told left) = let bad : ⊥ = cc in absurd bad
+made-by host depth tries words asks packets m is says_so (routes l found complete are printed left) = let bad : ⊥ = cc in absurd bad
+
+made-so : {s next : SessionState} {out : List Piece} → (host depth tries : ℕ) (words : MapWords) (asks packets : ℕ) (m : NetMap) → out ≡ map_out host words asks packets m → Doing s (Map host depth tries) out next → IsMade s next host depth tries words m
+made-so host depth tries words asks packets m says_so d = made-by host depth tries words asks packets m refl says_so d
 
 -- the mapping behind a printed map, and what it was made over
 pub record IsMapping (n : Network) (host : ℕ) (words : MapWords) (m : NetMap) : Type 0 where
@@ -100,6 +148,7 @@ pub record IsMapping (n : Network) (host : ℕ) (words : MapWords) (m : NetMap) 
   pub can : CanMap host depth before
   pub fabric : fabric_of before ≡ n
   pub mapped : IsMapped host depth tries before after journal m words
+  pub made : IsMarkedMap host journal m
 
 pub mapping-of : (n : Network) (commands : List Command) (host : ℕ) (words : MapWords) (m : NetMap) → IsFabric n → (p : IsPrintedAfter n commands host words m) → IsMapping (fabric_of p.session.world) host words m
 mapping-of n commands host words m f p =
@@ -114,6 +163,7 @@ mapping-of n commands host words m f p =
       can = can-map-now n p.session host p.depth p.tries p.of_fabric is made.idle;
       fabric = refl;
       mapped = made.mapped;
+      made = marked-of host p.depth p.tries p.session.world p.next.world made.journal m words made.mapped made.shown;
     }
 
 -- marks change no cable
@@ -135,7 +185,7 @@ printed_maps_stand n commands host words m f p =
     let fair : IsFabric now = now_is_fabric p.session.world.links.cables (run_keeps_world n commands p.out p.session f p.over p.run).history in
     let found : IsTrueWhereFound now host a.journal =
     subst (λ k. IsTrueWhereFound k host a.journal) a.fabric (found_is_there host a.depth a.tries a.before a.after a.journal m words a.can a.mapped) in
-    marked-stands now host m a.mapped.unmarked a.mapped.marked (quotient-stands now host a.journal a.mapped.unmarked fair found a.mapped.quotient)
+    marked-stands now host m a.made.unmarked a.made.marked (quotient-stands now host a.journal a.made.unmarked fair found a.made.quotient)
 
 -- a map that is called complete
 record IsWhole (host : ℕ) (j : List Entry) (drowned : ℕ) : Type 0 where
@@ -189,4 +239,4 @@ complete_maps_are_one n commands others host m k f p q same =
     let one : a.journal ≡ b.journal =
     journals-one now host a.depth b.depth a.mapped.drowned b.mapped.drowned a.journal b.journal (true-of now host m a) then_true
     (called-whole host a.journal a.mapped.drowned a.mapped.called) (called-whole host b.journal b.mapped.drowned b.mapped.called) a.mapped.grown b.mapped.grown in
-    maps-one host b.journal a.mapped.unmarked b.mapped.unmarked m k (subst (λ j. IsQuotient host j a.mapped.unmarked) one a.mapped.quotient) b.mapped.quotient a.mapped.marked b.mapped.marked
+    maps-one host b.journal a.made.unmarked b.made.unmarked m k (subst (λ j. IsQuotient host j a.made.unmarked) one a.made.quotient) b.made.quotient a.made.marked b.made.marked

@@ -45,9 +45,8 @@ two_hosts_mapped = record {
   asked = asks;
   led = refl;
   grown = two_hosts_grown;
-  unmarked = two_hosts_map;
-  quotient = two_hosts_quotient;
-  marked = refl;
+  within = λ l. record { unmarked = two_hosts_map; quotient = two_hosts_quotient; marked = refl };
+  beyond = λ l. absurd (few_nodes l);
   called = right few_nodes two_hosts_all refl;
 }
 

@@ -9,7 +9,7 @@ use Rattle.run_defs.specs.declared.line.MapWords.{MapWords}
 use Rattle.run_defs.specs.declared.line.MapWords.TheVariants.{Complete, Doubtful, IncompleteDepth, IncompleteNodes}
 
 -- The last map was made by this mapper, these words say how far it is known to be right, and it began after so many
--- changes of cables.
+-- changes of cables. Where the tree had too many nodes it has no vertices.
 pub record LastMap : Type 0 where
   pub mapper : ℕ
   pub words : MapWords

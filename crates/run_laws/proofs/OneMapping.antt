@@ -1,10 +1,10 @@
 -- A mapping is one, as each answer follows from the asks before it. So every mapping of the two hosts is the known one.
-use Rattle.std.proofs.Common.{◌≡◌, ◌≤◌, inl, ℕ, List, [], ◌∷◌, ◌++◌, map, refl, sym, ap, ◌∙◌, subst, arith}
+use Rattle.std.proofs.Common.{◌≡◌, ◌≤◌, ◌⊎◌, inl, inr, ℕ, List, [], ◌∷◌, ◌++◌, map, refl, sym, ap, ◌∙◌, subst, arith}
 use Rattle.std.specs.Prelude.{ℤ}
 use Rattle.net_defs.specs.declared.place.Answer.{Answer}
 use Rattle.net_defs.specs.Examples.{two_hosts}
 use Rattle.journal_defs.specs.declared.entry.Entry.{Entry}
-use Rattle.journal_defs.specs.Growth.{IsGrown}
+use Rattle.journal_defs.specs.Growth.{IsGrown, IsEndedAtLimit}
 use Rattle.journal_defs.specs.Examples.{two_hosts_journal, answer_to_turn}
 use Rattle.journal_defs.proofs.OneSwitch.{one-switch-grows, one-switch-rests}
 use Rattle.journal_defs.proofs.Grown.{two_hosts_closed}
@@ -18,10 +18,11 @@ use Rattle.world_defs.specs.World.{WorldState, new_world}
 use Rattle.world_defs.specs.Logs as log
 use Rattle.run_defs.specs.declared.line.MapWords.{MapWords}
 use Rattle.run_defs.specs.declared.line.MapWords.TheVariants.{Complete}
-use Rattle.run_defs.specs.Mapped.{IsMapped, IsCalled}
+use Rattle.run_defs.specs.Mapped.{IsMapped, IsMarkedMap, IsCalled}
 use Rattle.run_defs.specs.Mapped.IsCalled.{too_many_nodes, too_shallow, doubted, right}
 use Rattle.run_defs.specs.Examples.{mapped_world, setup_map}
 use Rattle.run_defs.proofs.Mapping.{two_hosts_mapped}
+use Rattle.mapping_laws.proofs.Made.{at-limit}
 use Rattle.run_laws.specs.Laws.{MappingIsOne}
 use Rattle.run_laws.specs.TwoHosts.{MappingIsComplete}
 
@@ -83,6 +84,19 @@ words-one host j drowned x y (right l c d) (right k b e) = refl
 maps-one : (host : ℕ) (j : List Entry) (p q m k : NetMap) → IsQuotient host j p → IsQuotient host j q → m ≡ record p { core = core_of p } → k ≡ record q { core = core_of q } → m ≡ k
 maps-one host j p q m k of_p of_q e f = e ∙ ap (λ (z : NetMap). record z { core = core_of z }) (quotient_is_one host j p q of_p of_q) ∙ sym f
 
+-- a map that is made of a grown journal
+record IsKept (host : ℕ) (j : List Entry) (m : NetMap) : Type 0 where
+  within : ¬ IsEndedAtLimit j → IsMarkedMap host j m
+  beyond : IsEndedAtLimit j → m ≡ record { vertices = []; cables = []; core = [] }
+
+-- is one, also where there is none
+kept-one : (host : ℕ) (j : List Entry) (m k : NetMap) → IsEndedAtLimit j ⊎ (¬ IsEndedAtLimit j) → IsKept host j m → IsKept host j k → m ≡ k
+kept-one host j m k (inl l) a b = a.beyond l ∙ sym (b.beyond l)
+kept-one host j m k (inr l) a b =
+    let p = a.within l in
+    let q = b.within l in
+    maps-one host j p.unmarked q.unmarked m k p.quotient q.quotient p.marked q.marked
+
 pub mapping_is_one : MappingIsOne
 mapping_is_one host depth tries before v w j l m k x y first second =
     let here : IsTold (tell before.links.cables.changes host tries before) j = journal-told before.links.cables.changes host tries before j (ap (λ (a : log.AskedAll). a.entries) first.asked) in
@@ -92,7 +106,7 @@ mapping_is_one host depth tries before v w j l m k x y first second =
     let drowned : first.drowned ≡ second.drowned = ap (λ (a : log.AskedAll). a.drowned) both in (
       first.led ∙ ap (λ i. (log.asks before.links.cables.changes host tries (walks_of i) before).world) one ∙ sym second.led,
       one,
-      maps-one host l first.unmarked second.unmarked m k (subst (λ i. IsQuotient host i first.unmarked) one first.quotient) second.quotient first.marked second.marked,
+      kept-one host l m k (at-limit host depth l second.grown) (subst (λ i. IsKept host i m) one (record { within = first.within; beyond = first.beyond })) (record { within = second.within; beyond = second.beyond }),
       words-one host l second.drowned x y (subst (λ n. IsCalled host l n x) drowned (subst (λ i. IsCalled host i first.drowned x) one first.called)) second.called,
     )
 
@@ -109,9 +123,8 @@ known depth deep = record {
   asked = two_hosts_mapped.asked;
   led = two_hosts_mapped.led;
   grown = grown-to depth deep;
-  unmarked = two_hosts_mapped.unmarked;
-  quotient = two_hosts_mapped.quotient;
-  marked = two_hosts_mapped.marked;
+  within = two_hosts_mapped.within;
+  beyond = two_hosts_mapped.beyond;
   called = two_hosts_mapped.called;
 }
 
