@@ -9,7 +9,7 @@ ghost use Rattle.adopted_routes.specs.Adopting.{part_count_for};
 use crate::same::are_same;
 use net_defs::Walk;
 use port_graph::RouteSet;
-use route_install::{RoutePart, part_for, parts_of};
+use route_install::{RoutePart, part_for, parts_of, walk_between};
 use std::alloc::{AllocError, Global};
 use std::marker::Model;
 use world_defs::Standing;
@@ -104,7 +104,7 @@ impl Adopted {
     pub(crate) fn route_to(&self, alloc: Global, dst: u16) -> Result<Option<Walk>, AllocError>
         ensures { IfOk result (λ walk. walk ≡ route_of self.now.routes self.now.mapper dst) }
     {
-        match self.set.route(self.mapper, dst) {
+        match walk_between(&self.set, self.mapper, dst) {
             Some(walk) => Ok(Some(walk.copied(alloc)?)),
             None => Ok(None),
         }

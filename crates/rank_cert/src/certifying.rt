@@ -6,7 +6,7 @@ ghost use Rattle.map_defs.specs.Orientation.{IsOrder};
 ghost use Rattle.map_defs.specs.Ranks.{ranks_of};
 ghost use Rattle.rank_cert.specs.Listing.{entry_at, rank_between};
 
-use crate::crossings::{MAX_PORT, PORTS, crossings};
+use crate::crossings::{MAX_PORT, PORTS};
 use crate::ranks::Ranks;
 use fabric_map::FabricMap;
 use map_defs::RankEntry;
@@ -24,8 +24,7 @@ pub fn certify(alloc: Global, m: &FabricMap, order: &[u32]) -> Result<Ranks, All
         push_some(&mut entries, entry_at(m, order, k))?;
     }
     let ranks = Ranks::new(entries);
-    let table = crossings(alloc, m, &ranks)?;
-    Ok(ranks.with_crossings(table))
+    Ok(ranks)
 }
 
 // Adds an entry, if there is one.

@@ -63,8 +63,8 @@ impl Ranks {
         }
     }
 
-    /// The same ranks with the channels of a map.
-    pub(crate) fn with_crossings(self, crossings: Vec<Option<Crossing>>) -> Ranks
+    // The same ranks with the channels of a map.
+    fn with_crossings(self, crossings: Vec<Option<Crossing>>) -> Ranks
         ensures { result ≡ self }
     {
         let Ranks {

@@ -45,7 +45,7 @@ host-at m a v e =
     record { there = there; host = ap host_at is ∙ named.0; plain = ap switch_at is ∙ named.1 }
 
 -- a host is entered by its one port
-entered-once : (m : NetMap) (b v : ℕ) → IsMap m → IsHostAt m b v → (c f : MapPort) → map_far m c ≡ Some f → f.v ≡ v → f ≡ record { v = v; p = pos 0 }
+pub entered-once : (m : NetMap) (b v : ℕ) → IsMap m → IsHostAt m b v → (c f : MapPort) → map_far m c ≡ Some f → f.v ≡ v → f ≡ record { v = v; p = pos 0 }
 entered-once m b v r h c f far same =
     let port : f.p ≡ pos 0 = far-holds (λ (d : MapPort). (g : ℕ) → host_of_vertex m d.v ≡ Some g → d.p ≡ pos 0) m.cables c f r.host_ports far b (ap (host_of_vertex m) same ∙ h.host) in
     λ i. record { v = same i; p = port i }

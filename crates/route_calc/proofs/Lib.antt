@@ -5,6 +5,7 @@ pub mod Few
 pub mod First
 pub mod Gathered
 pub mod Going
+pub mod Hanging
 pub mod Least
 pub mod Listed
 pub mod Lowered

@@ -79,7 +79,7 @@ nearest-found far down least (x ∷ xs) = by (nearest-found far down (least_with
     by (inl e) (inr f) = inr (record { at = x; there = inl refl; may = f.0; is = f.1 ∙ sym e })
 
 -- A legal channel of a vertex, and what it leads to.
-record Channel (m : NetMap) (order : List ℕ) (v : ℕ) (down : Bool) (x : Exit) : Type 0 where
+pub record Channel (m : NetMap) (order : List ℕ) (v : ℕ) (down : Bool) (x : Exit) : Type 0 where
   pub place : ℕ
   pub low : place < 31
   pub far : MapPort
@@ -88,7 +88,7 @@ record Channel (m : NetMap) (order : List ℕ) (v : ℕ) (down : Bool) (x : Exit
   pub vertex : x.next.v ≡ far.v
   pub went : x.next.down ≡ not (is_up m order (port_of_place v place))
 
-channel-of : (m : NetMap) (order : List ℕ) (v : ℕ) (down : Bool) (x : Exit) → IsMember x (exits_of m order v) → is_open down x ≡ true → Channel m order v down x
+pub channel-of : (m : NetMap) (order : List ℕ) (v : ℕ) (down : Bool) (x : Exit) → IsMember x (exits_of m order v) → is_open down x ≡ true → Channel m order v down x
 channel-of m order v down x i may =
     let p = exits-placed m order v 31 x i in
     by p.at p.low (map_far m (port_of_place v p.at)) refl p.is
@@ -122,7 +122,7 @@ place-low n v true l = omega arith
 place-low n v false l = omega arith
 
 -- one place for each vertex and phase
-place-once : (v u : ℕ) (down phase : Bool) → place_in v down ≡ place_in u phase → (v ≡ u) × (down ≡ phase)
+pub place-once : (v u : ℕ) (down phase : Bool) → place_in v down ≡ place_in u phase → (v ≡ u) × (down ≡ phase)
 place-once v u true true e = (omega arith, refl)
 place-once v u true false e = absurd (omega arith)
 place-once v u false true e = absurd (omega arith)

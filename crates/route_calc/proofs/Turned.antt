@@ -1,9 +1,11 @@
 -- The turns by first ports are the best ones, over as many channels as distances say.
-use Rattle.std.proofs.Common.{◌≡◌, ◌<◌, ◌≤◌, ℕ, zero, suc, Bool, List, ◌∷◌, Some, refl, ap, ◌∙◌, arith, w8, SFits}
+use Rattle.std.proofs.Common.{◌≡◌, ◌<◌, ◌≤◌, ℕ, zero, suc, Bool, true, false, List, ◌∷◌, length, nat_lt, if◌then◌else◌, Some, None, refl, ap, ◌∙◌, arith, w8, SFits}
 use Rattle.std.specs.Prelude.{ℤ, ◌-ℤ◌}
 use Rattle.std.proofs.lemmas.Bool.Decides.{nat_tests}
 use Rattle.std.proofs.lemmas.Int.{ints}
-use Rattle.net_defs.specs.Turn.{IsTurn}
+use Rattle.std.specs.List.{list_all}
+use Rattle.net_defs.specs.Turn.{IsTurn, is_turn, walk_refusal}
+use Rattle.net_defs.specs.declared.walk.WalkFault.TheVariants.{TooLong, TurnRange}
 use Rattle.map_defs.specs.NetMap.{NetMap, IsMap}
 use Rattle.route_calc.specs.declared.entered.Entered.{Entered}
 use Rattle.route_calc.specs.declared.entered.Exit.{Exit}
@@ -23,6 +25,15 @@ turn-fits p s = grind (arith, ints, nat_tests)
 
 pub difference-fits : (p q : ℤ) → IsTurn p → IsTurn q → SFits w8 (p -ℤ q)
 difference-fits p q s t = grind (arith, ints, nat_tests)
+
+-- turns that are a walk are in range
+pub walk-range : (ts : List ℤ) → walk_refusal ts ≡ None → list_all is_turn ts ≡ true
+walk-range ts e = by (nat_lt 64 (length ts)) (list_all is_turn ts) refl e
+  where
+    by : (a b : Bool) → list_all is_turn ts ≡ b → (if a then Some TooLong else if b then None else Some TurnRange) ≡ None → list_all is_turn ts ≡ true
+    by a true p q = p
+    by true false p q = cc
+    by false false p q = cc
 
 -- what is within so many channels by its distance is so
 pub within-reaches : (m : NetMap) (order : List ℕ) (to : ℕ) (far : List ℕ) (k : ℕ) → AreDistances m order to far → k < 255 → within far k ≡ reaches m order to k

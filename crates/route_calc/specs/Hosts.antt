@@ -1,5 +1,5 @@
 -- The ways to each host.
-use Rattle.std.specs.Prelude.{◌≡◌, ℕ, ◌<◌, pos, List, [], ◌∷◌, slice_get, Option, Some}
+use Rattle.std.specs.Prelude.{◌≡◌, ℕ, ◌<◌, ◌*◌, pos, List, [], ◌∷◌, length, slice_get, Option, Some}
 use Rattle.std.specs.List.{AllByRecursion}
 use Rattle.map_defs.specs.NetMap.{NetMap, host_of_vertex}
 use Rattle.map_defs.specs.Routing.{vertex_of_host}
@@ -23,6 +23,8 @@ pub record AreWaysOf (m : NetMap) (order : List ℕ) (w : HostWays) : Type 0 whe
   pub starts : w.start ≡ entered_by m order (record { v = w.vertex; p = pos 0 })
   pub are_distances : AreDistances m order w.vertex w.far
   pub are_first : AreFirst (all_exits m order) w.far w.firsts
+  pub long : length w.far ≡ 2 * length m.vertices
+  pub firsts_long : length w.firsts ≡ length w.far
 
 -- the ways rise by host
 abbrev pub AreRisingHosts : List HostWays → Type 0

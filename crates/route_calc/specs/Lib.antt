@@ -1,4 +1,5 @@
 pub mod Adding
+pub mod Beside
 pub mod Exits
 pub mod Far
 pub mod First

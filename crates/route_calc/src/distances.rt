@@ -37,7 +37,8 @@ pub(crate) fn distances(
     requires exits { exits.now ≡ all_exits m.now (order_of m.now) }
     requires numbered { numbered ≡ true → AreNumbered m.now (order_of m.now) }
     requires vertex { to < length m.now.vertices }
-    ensures { IfOk result (λ far. AreDistances m.now (order_of m.now) to far.items) }
+    ensures distances { IfOk result (λ far. AreDistances m.now (order_of m.now) to far.items) }
+    ensures long { IfOk result (λ far. length far.items ≡ 2 * length m.now.vertices) }
 {
     let _ = m.vertices();
     let mut far = first_distances(alloc, m, to)?;
@@ -72,6 +73,7 @@ fn lower_again(m: &FabricMap, exits: &[Exits], numbered: bool, far: &mut [u8]) -
 
 // Lowers each distance once, and says whether one was lowered: first those after a channel down, from the last
 // vertex on, since a channel down leads to a later one; then the others, from the first vertex on.
+#[inline(never)]
 fn lower_all(m: &FabricMap, exits: &[Exits], far: &mut [u8]) -> bool
     requires exits { exits.now ≡ all_exits m.now (order_of m.now) }
     requires long { length far.old ≡ 2 * length m.now.vertices }

@@ -12,8 +12,10 @@ use crate::exits::Exits;
 use std::alloc::{AllocError, Global};
 
 /// The number of the first port that leads nearer, for each distance to a host.
+#[inline(never)]
 pub(crate) fn firsts(alloc: Global, exits: &[Exits], far: &[u8]) -> Result<Vec<u8>, AllocError>
-    ensures { IfOk result (λ firsts. AreFirst exits.now far.now firsts.items) }
+    ensures first { IfOk result (λ firsts. AreFirst exits.now far.now firsts.items) }
+    ensures long { IfOk result (λ firsts. length firsts.items ≡ length far.now) }
 {
     let mut firsts = vec![in alloc; 0; far.len()]?;
     for place in 0..far.len() {
@@ -22,8 +24,8 @@ pub(crate) fn firsts(alloc: Global, exits: &[Exits], far: &[u8]) -> Result<Vec<u
     Ok(firsts)
 }
 
-// The number of the first port that leads nearer, for the distance at a place.
-fn first_at(exits: &[Exits], far: &[u8], place: usize) -> u8
+/// The number of the first port that leads nearer, for the distance at a place.
+pub(crate) fn first_at(exits: &[Exits], far: &[u8], place: usize) -> u8
     requires { place < length far.now }
     ensures { (v : ℕ) (down : Bool) → place ≡ place_in v down → IsFirst exits.now far.now v down result }
 {

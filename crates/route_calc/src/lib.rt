@@ -11,7 +11,8 @@
 //! The cabled ports of each vertex are listed once for a map. A sweep over these lists lowers all distances to a
 //! host: first those of packets that went down, from the last vertex on, then the others, from the first. A channel
 //! down leads to a place farther from the root, so where switches are numbered by that distance, as a mapper numbers
-//! them, one sweep finds all. Else there are sweeps until nothing is left.
+//! them, one sweep finds all. Else there are sweeps until nothing is left. A host that hangs at the switch of the host
+//! before it takes the distances of that one, with its own place in the place of the other's.
 //!
 //! ```text
 //!   a ---- s ---- t ---- b      To b, the distances of b, t and s are 0, 1 and 2. From s, the least port that leads
@@ -27,9 +28,11 @@
 //! | `firsts` | by which port a way goes on from each vertex |
 //! | `numbering` | whether vertices are numbered as they stand in the order |
 //! | `ways` | the ways to one host |
+//! | `beside` | the ways to a host by those to another at its switch |
 //! | `pairs` | the routes of all hosts |
 #![tactic(auto)]
 
+mod beside;
 mod distances;
 mod entered;
 mod exits;

@@ -1,25 +1,27 @@
 //! The routes of all hosts.
 
-ghost use Rattle.std.specs.Prelude.{◌≡◌, ◌≢◌, ℕ, pos, ◌<◌, ◌≤◌, ◌++◌, ◌∷◌, [], length, None, Some, IfOk, OnOk};
-ghost use Rattle.std.specs.List.{AllByRecursion};
-ghost use Rattle.net_defs.specs.Turn.{IsTurn, walk_refusal};
+ghost use Rattle.std.specs.Prelude.{◌≡◌, ◌≢◌, ℕ, pos, ◌<◌, ◌≤◌, ◌++◌, ◌∷◌, [], length, take, true, None, Some, IfOk, IfSome, OnOk};
+ghost use Rattle.std.specs.List.{AllByRecursion, list_all};
+ghost use Rattle.net_defs.specs.Turn.{IsTurn, is_turn, walk_refusal};
 ghost use Rattle.map_defs.specs.NetMap.{IsConnected, host_of_vertex, switches_of};
 ghost use Rattle.map_defs.specs.Orientation.{order_of};
-ghost use Rattle.map_defs.specs.Routing.{IsLeastLegal, AreRoutesOf};
+ghost use Rattle.map_defs.specs.Routing.{IsLeastLegal, AreRoutesOf, vertex_of_host};
 ghost use Rattle.updown.specs.Oriented.{orientation_of};
 ghost use Rattle.port_graph.specs.Routes.{push_refusal};
 ghost use Rattle.route_calc.specs.Adding.{AddsRoutes};
 ghost use Rattle.route_calc.specs.Exits.{all_exits};
 ghost use Rattle.route_calc.specs.Hosts.{AreWaysOf, AreAllWays, AreRisingHosts};
 ghost use Rattle.route_calc.specs.Far.{far_at};
+ghost use Rattle.route_calc.specs.Lowering.{AreNumbered};
 ghost use Rattle.route_calc.specs.Ways.{IsDistance, entered_by};
 
+use crate::beside::ways_beside;
 use crate::entered::Entered;
 use crate::exits::{Exits, all_exits};
 use crate::numbering::are_numbered;
 use crate::ways::Ways;
 use fabric_map::{FabricMap, MapVertex};
-use net_defs::WalkFault;
+use net_defs::{FEW_TURNS, WalkFault};
 use port_graph::{Route, RoutePush, RouteSet, Walk};
 use std::alloc::{AllocError, Global};
 use updown::Orientation;
@@ -59,11 +61,77 @@ fn all_ways(
     let mut ways = Vec::new(alloc);
     for a in 0..usize::from(greatest_address(m)) + 1 {
         if let Some(vertex) = m.vertex_of_host(a as u16) {
-            let way = Ways::to(alloc, m, o, exits, numbered, a as u16, vertex)?;
+            let way = next_ways(alloc, m, o, exits, numbered, &ways, (a as u16, vertex))?;
             ways.push(way)?;
         }
     }
     Ok(ways)
+}
+
+// The ways to a host and its vertex: by those to the last of other hosts, where both hang at one switch.
+fn next_ways(
+    alloc: Global,
+    m: &FabricMap,
+    o: &Orientation,
+    exits: &[Exits],
+    numbered: bool,
+    others: &[Ways],
+    host: (u16, u32),
+) -> Result<Ways, AllocError>
+    requires oriented { o.now ≡ orientation_of m.now }
+    requires exits { exits.now ≡ all_exits m.now (order_of m.now) }
+    requires numbered { numbered ≡ true → AreNumbered m.now (order_of m.now) }
+    requires others { AllByRecursion (AreWaysOf m.now (order_of m.now)) others.now }
+    requires host { vertex_of_host m.now host.0 ≡ Some host.1 }
+    ensures ways { IfOk result (λ w. AreWaysOf m.now (order_of m.now) w) }
+    ensures host { IfOk result (λ w. w.host ≡ host.0) }
+{
+    match last_moved(alloc, m, o, exits, others, host)? {
+        Some(way) => Ok(way),
+        None => found_ways(alloc, m, o, exits, numbered, host),
+    }
+}
+
+// The ways to a host by those to the last of others, if both hang at one switch.
+fn last_moved(
+    alloc: Global,
+    m: &FabricMap,
+    o: &Orientation,
+    exits: &[Exits],
+    others: &[Ways],
+    host: (u16, u32),
+) -> Result<Option<Ways>, AllocError>
+    requires oriented { o.now ≡ orientation_of m.now }
+    requires exits { exits.now ≡ all_exits m.now (order_of m.now) }
+    requires others { AllByRecursion (AreWaysOf m.now (order_of m.now)) others.now }
+    requires host { vertex_of_host m.now host.0 ≡ Some host.1 }
+    ensures ways { IfOk result (λ w. IfSome w (AreWaysOf m.now (order_of m.now))) }
+    ensures host { IfOk result (λ w. IfSome w (λ w. w.host ≡ host.0)) }
+{
+    match others.last() {
+        Some(from) => ways_beside(alloc, m, o, exits, from, host),
+        None => Ok(None),
+    }
+}
+
+// The ways to a host, without those to another.
+fn found_ways(
+    alloc: Global,
+    m: &FabricMap,
+    o: &Orientation,
+    exits: &[Exits],
+    numbered: bool,
+    host: (u16, u32),
+) -> Result<Ways, AllocError>
+    requires oriented { o.now ≡ orientation_of m.now }
+    requires exits { exits.now ≡ all_exits m.now (order_of m.now) }
+    requires numbered { numbered ≡ true → AreNumbered m.now (order_of m.now) }
+    requires host { vertex_of_host m.now host.0 ≡ Some host.1 }
+    ensures ways { IfOk result (λ w. AreWaysOf m.now (order_of m.now) w) }
+    ensures host { IfOk result (λ w. w.host ≡ host.0) }
+{
+    let way = Ways::to(alloc, m, o, exits, numbered, host.0, host.1)?;
+    Ok(way)
 }
 
 // The greatest address of a host, or 0.
@@ -81,7 +149,8 @@ fn greatest_address(m: &FabricMap) -> u16
     greatest
 }
 
-// Adds the routes from one host.
+// Adds the routes from one host. It is called once a host, and has its loop's values in registers out of its caller.
+#[inline(never)]
 fn add_routes(
     alloc: Global,
     m: &FabricMap,
@@ -153,8 +222,50 @@ fn least_walk(
     walk_of(alloc, turns)
 }
 
-// The walk of turns that are one.
+// The walk of turns that are one. Few of them take no memory.
 fn walk_of(alloc: Global, turns: &[i8]) -> Result<Walk, AllocError>
+    requires { walk_refusal turns.now ≡ None }
+    ensures { IfOk result (λ w. w ≡ turns.now) }
+{
+    if turns.len() <= FEW_TURNS {
+        Ok(few_walk(turns))
+    } else {
+        long_walk(alloc, turns)
+    }
+}
+
+// The walk of few turns.
+fn few_walk(turns: &[i8]) -> Walk
+    requires few { length turns.now ≤ 14 }
+    requires walk { walk_refusal turns.now ≡ None }
+    ensures { result ≡ turns.now }
+{
+    let places = few_places(turns);
+    Walk::of_few(turns.len() as u8, places)
+}
+
+// Few turns of a walk in places, in range.
+fn few_places(turns: &[i8]) -> [i8; FEW_TURNS]
+    requires few { length turns.now ≤ 14 }
+    requires walk { walk_refusal turns.now ≡ None }
+    ensures turns { take (length turns.now) result ≡ turns.now }
+    ensures in_range { list_all is_turn (take (length turns.now) result) ≡ true }
+{
+    places_of(turns)
+}
+
+// Few turns in places.
+fn places_of(turns: &[i8]) -> [i8; FEW_TURNS]
+    requires { length turns.now ≤ 14 }
+    ensures { take (length turns.now) result ≡ turns.now }
+{
+    let mut places = [0; FEW_TURNS];
+    places[..turns.len()].copy_from_slice(turns);
+    places
+}
+
+// The walk of any number of turns.
+fn long_walk(alloc: Global, turns: &[i8]) -> Result<Walk, AllocError>
     requires { walk_refusal turns.now ≡ None }
     ensures { IfOk result (λ w. w ≡ turns.now) }
 {

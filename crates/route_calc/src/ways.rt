@@ -1,6 +1,6 @@
 //! The ways to one host.
 
-ghost use Rattle.std.specs.Prelude.{◌≡◌, ◌<◌, true, All, length, pos, slice_get, slice_index_or, IfOk, IfSome, OnOk};
+ghost use Rattle.std.specs.Prelude.{◌≡◌, ◌<◌, ◌*◌, true, All, length, pos, slice_get, slice_index_or, IfOk, IfSome, OnOk};
 ghost use Rattle.net_defs.specs.Turn.{IsTurn};
 ghost use Rattle.map_defs.specs.Orientation.{order_of};
 ghost use Rattle.updown.specs.Oriented.{orientation_of};
@@ -67,6 +67,8 @@ impl Ways {
           p = pos 0;
         }) }
         ensures distances { IfOk result (λ w. AreDistances m.now (order_of m.now) vertex w.far) }
+        ensures long { IfOk result (λ w. length w.far ≡ 2 * length m.now.vertices) }
+        ensures firsts { IfOk result (λ w. length w.firsts ≡ length w.far) }
         ensures first { IfOk result (λ w. AreFirst exits.now w.far w.firsts) }
     {
         let far = distances(alloc, m, exits, numbered, vertex)?;
@@ -78,6 +80,51 @@ impl Ways {
             far,
             firsts,
         })
+    }
+
+    /// The ways to a host and its vertex, of these parts.
+    pub(crate) fn of(
+        host: (u16, u32),
+        start: Option<Entered>,
+        far: Vec<u8>,
+        firsts: Vec<u8>,
+    ) -> Ways
+        ensures { result ≡ record {
+          host = host.0;
+          vertex = host.1;
+          start = start;
+          far = far.items;
+          firsts = firsts.items;
+        } }
+    {
+        Ways {
+            host: host.0,
+            vertex: host.1,
+            start,
+            far,
+            firsts,
+        }
+    }
+
+    /// The host's vertex.
+    pub(crate) fn vertex(&self) -> u32
+        ensures { result ≡ self.now.vertex }
+    {
+        self.vertex
+    }
+
+    /// The distances of all places.
+    pub(crate) fn far(&self) -> &[u8]
+        ensures { result.now ≡ self.now.far }
+    {
+        &self.far
+    }
+
+    /// The numbers of the first ports of all places.
+    pub(crate) fn firsts(&self) -> &[u8]
+        ensures { result.now ≡ self.now.firsts }
+    {
+        &self.firsts
     }
 
     pub(crate) fn host(&self) -> u16

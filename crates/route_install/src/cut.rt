@@ -7,6 +7,7 @@ ghost use Rattle.net_defs.specs.RouteSet.{AreRising};
 ghost use Rattle.route_install.specs.Collecting.{is_fit};
 ghost use Rattle.world_defs.specs.Table.{entries_from, part_for, part_count, part_entries};
 
+use crate::between::walk_between;
 use net_defs::{Route, Walk};
 use port_graph::RouteSet;
 use route_parts::{EntryList, RoutePart, TableEntry};
@@ -39,7 +40,7 @@ pub fn part_for(
         return Ok(None);
     }
     let entries = part_of(routes, part);
-    match r.route(dst, mapper) {
+    match walk_between(r, dst, mapper) {
         Some(back) => Ok(Some(RoutePart {
             epoch,
             mapper,

@@ -11,6 +11,7 @@
 //!
 //! | module | has |
 //! |---|---|
+//! | `between` | the walk of a set from one host to another |
 //! | `cut` | parts of a set of routes |
 //! | `collected` | parts by rising number |
 //! | `finding` | where the entry for a host stands |
@@ -19,6 +20,7 @@
 //! | `laws` | what comes of parts in any order |
 #![tactic(auto)]
 
+mod between;
 mod collected;
 mod cut;
 mod finding;
@@ -26,6 +28,7 @@ mod installer;
 mod laws;
 mod table;
 
+pub use between::walk_between;
 pub use cut::{part_for, parts_of};
 pub use installer::{Installer, Work};
 pub use laws::{hosts_have_their_parts, parts_make_the_table};

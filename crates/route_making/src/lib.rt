@@ -5,9 +5,11 @@
 //!
 //! ```text
 //!   map --> orientation --> routes --+
-//!                 |                  +--> check --> routes 2, route a b +3, .., rank a 0 1, .., endroutes
+//!                 |                  +--> routes 2, route a b +3, .., rank a 0 1, .., endroutes
 //!                 +-----> ranks -----+
 //! ```
+//!
+//! The check of `rank_cert` would find no fault in them: that is proved, so the check isn't made each time.
 //!
 //! | module | has |
 //! |---|---|

@@ -21,4 +21,4 @@ returns c =
     let past = c.loop-k-test.false in
     let end = c.loop-k.auto.k-end in
     let all : c.loop-k.k ≡ 31 * length m.vertices = omega arith in
-    c.with_crossings.ensures ∙ c.new-ranks.ensures ∙ c.loop-k.invariant ∙ ap (entries_below m order) all ∙ entries-all m order
+    c.new-ranks.ensures ∙ c.loop-k.invariant ∙ ap (entries_below m order) all ∙ entries-all m order

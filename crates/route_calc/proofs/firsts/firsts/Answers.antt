@@ -16,7 +16,10 @@ loop-place-preserved c =
       each = first-more c.args.exits.now c.args.far.now c.loop-place.firsts.items c.loop-place.place c.first_at.result low c.first_at.ensures c.loop-place.invariant.each;
     }
 
-pub returns : goal.returns
-returns c =
+pub returns-clause-first : goal.returns-clause-first
+returns-clause-first c =
     let past : length c.args.far.now ≤ c.loop-place.place = search rules in
     first-all c.args.exits.now c.args.far.now c.loop-place.firsts.items c.loop-place.place past c.loop-place.invariant.each
+
+pub returns-clause-long : goal.returns-clause-long
+returns-clause-long c = c.loop-place.invariant.long

@@ -1,7 +1,9 @@
-use Rattle.std.proofs.Common.{◌≡◌, ◌<◌, ◌≤◌, ◌^◌, List, length, sym, subst, ◌∙◌, arith}
+use Rattle.std.proofs.Common.{◌≡◌, ◌<◌, ◌≤◌, ◌^◌, List, None, length, sym, subst, ◌∙◌, arith}
 use Rattle.net_defs.specs.declared.route.Route.{Route}
 use Rattle.map_defs.specs.Orientation.{order_of}
 use Rattle.map_defs.specs.Ranks.{IsCertificate, ranks_of}
+use Rattle.rank_cert.specs.Checking.{first_fault}
+use Rattle.map_defs.specs.declared.rank.RankEntry.{RankEntry}
 use Rattle.route_making.specs.Listed.{AreBetweenHosts}
 use Rattle.route_making.proofs.Few.{few-routes}
 use Rattle.route_making.proofs.Lines.{parts-printed, whole-printed}
@@ -34,3 +36,7 @@ returns-clause-text c =
 
 pub returns-clause-certified : goal.returns-clause-certified
 returns-clause-certified c = subst (IsCertificate c.args.m.now c.in_ok-set.set) c.in_ok-set.ensures.ranks c.in_ok-set.ensures.certified
+
+pub returns-clause-faultless : goal.returns-clause-faultless
+returns-clause-faultless c =
+    subst (λ (ks : List RankEntry). first_fault c.args.m.now ks c.in_ok-set.set ≡ None) c.in_ok-set.ensures.ranks c.in_ok-set.ensures.faultless
