@@ -67,8 +67,3 @@ pub host-in : (f : Network) (m : NetMap) (h : ℕ) → h < length f.hosts → li
 host-in f m h within is =
     let same : 0 + h ≡ h = omega arith in
     one-of (λ g. list_any (nat_eq g) (hosts_of m.vertices)) 0 (length f.hosts) h within (ap (λ g. list_any (nat_eq g) (hosts_of m.vertices)) same ∙ is)
-
--- what holds in any case does on an error
-pub on-any : {T E : Type 0} (r : Result T E) (P : Type 0) → P → OnErr r P
-on-any (Ok x) P p = tt
-on-any (Err e) P p = p

@@ -18,7 +18,7 @@ use Rattle.line_forms.specs.declared.line.TokensLine.{TokensLine}
 use Rattle.answer_defs.specs.declared.why.Why.TheVariants.{Token as BadToken}
 use Rattle.answer_defs.specs.Answer.{Alone, Answered, answered, told_in, told_by, told, received_as}
 use Rattle.answer_defs.specs.Right.{GivesLength, PlacesAreTrue, MessagesAreTrue, TokensAreTrue}
-use Rattle.answer_checks.specs.Ledgers.{LedgersState, AreLedgersOf, JudgesLine, token_unless}
+use Rattle.answer_checks.specs.Ledgers.{LedgersState, AreLedgersOf, JudgesLine, IsRightLine, token_unless}
 
 -- ---- messages
 
@@ -34,8 +34,12 @@ silent-waits past q x s r w = record {
       ∙ ap (λ ms. ms ++ map (sent_message k) (waiting q k)) (sym (ap (λ ms. received_told k past ++ ms) (r k) ∙ append-nil (received_told k past)));
 }
 
+-- and the order
+pub silent-in-order : (past : List Told) (q : List (Lane × List SentMessage)) (x : Told) → ((k : Lane) → sent_by k x ≡ []) → ((k : Lane) → received_by k x ≡ []) → AreWaiting past q → AreInOrder (x ∷ past)
+silent-in-order past q x s r w = in-order (x ∷ past) q (silent-waits past q x s r w)
+
 -- so does an accepted message leave the order
-accepted-in-order : (past : List Told) (q : List (Lane × List SentMessage)) (l : Lane) (m : SentMessage) (token : ℕ) → AreWaiting past q → AreInOrder (ToldAccepted l m token ∷ past)
+pub accepted-in-order : (past : List Told) (q : List (Lane × List SentMessage)) (l : Lane) (m : SentMessage) (token : ℕ) → AreWaiting past q → AreInOrder (ToldAccepted l m token ∷ past)
 accepted-in-order past q l m token w = record {
   each = λ k.
       let R = received_told k past in
@@ -136,6 +140,12 @@ one-judged before c l x now e length places right w h = (
     held = subst (λ ts. AreHeld (ts ++ told before) now.tokens) (sym e) h;
   },
 )
+
+-- right in all
+pub one-line-right : (before : List Answered) (c : Command) (l : ReportLine) (x : Told) → told_by c l ≡ x ∷ [] → GivesLength (Alone l) → PlacesAreTrue (told before) (Alone l)
+    → AreInOrder (x ∷ told before) → AreTokensRight (told before) x → IsRightLine before (answered c (Alone l))
+one-line-right before c l x e length places order right =
+    (record { in_order = subst (λ ts. AreInOrder (ts ++ told before)) (sym e) order; lengths = length }, one-right before c l x e places right)
 
 -- its token alone isn't right
 pub one-token : (before : List Answered) (c : Command) (l : ReportLine) (x : Told) (now : LedgersState) → told_by c l ≡ x ∷ [] → GivesLength (Alone l)

@@ -29,6 +29,10 @@ JudgesLine before t (Some Message) now = ¬ MessagesAreTrue before t
 JudgesLine before t (Some Token) now = MessagesAreTrue before t × (¬ TokensAreTrue before t)
 JudgesLine before t (Some why) now = ⊥
 
+-- A line is right of messages and tokens.
+abbrev pub IsRightLine : List Answered → Answered → Type 0
+IsRightLine before t = MessagesAreTrue before t × TokensAreTrue before t
+
 -- what fails where a token isn't right
 abbrev pub token_unless : Bool → Option Why
 token_unless is = if is then None else Some Token

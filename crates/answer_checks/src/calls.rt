@@ -2,7 +2,7 @@
 
 ghost use Rattle.std.specs.Prelude.{◌≡◌, true, List, IfOk, OnErr};
 ghost use Rattle.answer_defs.specs.Answer.{Answered, Alone, answered, message_of, tokens_of};
-ghost use Rattle.answer_checks.specs.Ledgers.{AreLedgersOf, JudgesLine, may_take_memory};
+ghost use Rattle.answer_checks.specs.Ledgers.{AreLedgersOf, JudgesLine, IsRightLine, may_take_memory};
 
 use crate::ledgers::Ledgers;
 use answer_defs::Why;
@@ -20,8 +20,10 @@ pub fn judge_line(
 ) -> Result<Option<Why>, AllocError>
     ensures judges { IfOk result (λ why. (before : List Answered) → AreLedgersOf before ledgers.old
         → JudgesLine before (answered command.now (Alone line.now)) why ledgers.new) }
-    // Memory may run out only in a line after which a ledger may grow.
-    ensures memory { OnErr result (may_take_memory line.now ≡ true) }
+    // Memory may run out only in a line that is right, and after which a ledger may grow.
+    ensures memory { OnErr result ((before : List Answered) → AreLedgersOf before ledgers.old
+        → IsRightLine before (answered command.now (Alone line.now))) }
+    ensures grows { OnErr result (may_take_memory line.now ≡ true) }
 {
     match line {
         ReportLine::Opened(port) => judge_opened(ledgers, command, *port),
@@ -41,8 +43,10 @@ fn judge_opened(
     command: &Command,
     port: PortName,
 ) -> Result<Option<Why>, AllocError>
-    ensures { IfOk result (λ why. (before : List Answered) → AreLedgersOf before ledgers.old
+    ensures judges { IfOk result (λ why. (before : List Answered) → AreLedgersOf before ledgers.old
         → JudgesLine before (answered command.now (Alone (ReportLine.Opened port))) why ledgers.new) }
+    ensures memory { OnErr result ((before : List Answered) → AreLedgersOf before ledgers.old
+        → IsRightLine before (answered command.now (Alone (ReportLine.Opened port)))) }
 {
     match tokens_of(command) {
         Some((sends, recvs)) => {
@@ -70,8 +74,10 @@ fn judge_accepted(
     port: PortName,
     token: u64,
 ) -> Result<Option<Why>, AllocError>
-    ensures { IfOk result (λ why. (before : List Answered) → AreLedgersOf before ledgers.old
+    ensures judges { IfOk result (λ why. (before : List Answered) → AreLedgersOf before ledgers.old
         → JudgesLine before (answered command.now (Alone (ReportLine.Accepted port token))) why ledgers.new) }
+    ensures memory { OnErr result ((before : List Answered) → AreLedgersOf before ledgers.old
+        → IsRightLine before (answered command.now (Alone (ReportLine.Accepted port token)))) }
 {
     match message_of(command, port) {
         Some((lane, message)) => ledgers.accept(lane, message, token),

@@ -1,9 +1,9 @@
 //! The messages that wait and the tokens that are held, as the answers so far tell them.
 
-ghost use Rattle.std.specs.Prelude.{◌≡◌, ◌↔◌, true, List, [], length, Some, None, IfOk, OnOk};
+ghost use Rattle.std.specs.Prelude.{◌≡◌, ◌↔◌, true, List, [], length, Some, None, IfOk, OnOk, OnErr};
 ghost use Rattle.run_defs.specs.declared.command.Command.{Command};
 ghost use Rattle.answer_defs.specs.Answer.{Answered, Alone, answered, message_of, tokens_of};
-ghost use Rattle.answer_checks.specs.Ledgers.{AreLedgersOf, JudgesLine, token_unless};
+ghost use Rattle.answer_checks.specs.Ledgers.{AreLedgersOf, JudgesLine, IsRightLine, token_unless};
 
 use answer_defs::Why;
 use line_forms::{ReceivedLine, ReportLine, TokensLine};
@@ -39,9 +39,12 @@ impl Ledgers {
 
     /// A port was opened with so many tokens.
     pub(crate) fn open(&mut self, port: PortName, sends: u16, recvs: u16) -> Result<(), AllocError>
-        ensures { OnOk result ((before : List Answered) (c : Command) → AreLedgersOf before self.old
+        ensures told { OnOk result ((before : List Answered) (c : Command) → AreLedgersOf before self.old
             → tokens_of c ≡ Some (sends, recvs)
             → JudgesLine before (answered c (Alone (ReportLine.Opened port))) None self.new) }
+        ensures memory { OnErr result ((before : List Answered) (c : Command) → AreLedgersOf before self.old
+            → tokens_of c ≡ Some (sends, recvs)
+            → IsRightLine before (answered c (Alone (ReportLine.Opened port)))) }
     {
         self.tokens.open(port, sends, recvs)
     }
@@ -69,9 +72,12 @@ impl Ledgers {
         message: SentMessage,
         token: u64,
     ) -> Result<Option<Why>, AllocError>
-        ensures { IfOk result (λ why. (before : List Answered) (c : Command) (a : PortName)
+        ensures judges { IfOk result (λ why. (before : List Answered) (c : Command) (a : PortName)
             → AreLedgersOf before self.old → message_of c a ≡ Some (lane, message)
             → JudgesLine before (answered c (Alone (ReportLine.Accepted a token))) why self.new) }
+        ensures memory { OnErr result ((before : List Answered) (c : Command) (a : PortName)
+            → AreLedgersOf before self.old → message_of c a ≡ Some (lane, message)
+            → IsRightLine before (answered c (Alone (ReportLine.Accepted a token)))) }
     {
         if self.tokens.send(lane, message, token) {
             self.messages.send(lane, message)?;
@@ -87,8 +93,10 @@ impl Ledgers {
         port: PortName,
         token: u64,
     ) -> Result<Option<Why>, AllocError>
-        ensures { IfOk result (λ why. (before : List Answered) (c : Command) → AreLedgersOf before self.old
+        ensures judges { IfOk result (λ why. (before : List Answered) (c : Command) → AreLedgersOf before self.old
             → JudgesLine before (answered c (Alone (ReportLine.Returned port token))) why self.new) }
+        ensures memory { OnErr result ((before : List Answered) (c : Command) → AreLedgersOf before self.old
+            → IsRightLine before (answered c (Alone (ReportLine.Returned port token)))) }
     {
         let is_right = self.tokens.give_back(port, token)?;
         Ok(token_unless(is_right))
@@ -96,8 +104,10 @@ impl Ledgers {
 
     /// A message was received.
     pub(crate) fn receive(&mut self, line: &ReceivedLine) -> Result<Option<Why>, AllocError>
-        ensures { IfOk result (λ why. (before : List Answered) (c : Command) → AreLedgersOf before self.old
+        ensures judges { IfOk result (λ why. (before : List Answered) (c : Command) → AreLedgersOf before self.old
             → JudgesLine before (answered c (Alone (ReportLine.Received line.now))) why self.new) }
+        ensures memory { OnErr result ((before : List Answered) (c : Command) → AreLedgersOf before self.old
+            → IsRightLine before (answered c (Alone (ReportLine.Received line.now)))) }
     {
         if gives_length(line) {
             self.receive_next(line)
@@ -109,8 +119,10 @@ impl Ledgers {
     // The same where the line gives the number of its bytes.
     fn receive_next(&mut self, line: &ReceivedLine) -> Result<Option<Why>, AllocError>
         requires { line.now.len ≡ length line.now.body }
-        ensures { IfOk result (λ why. (before : List Answered) (c : Command) → AreLedgersOf before self.old
+        ensures judges { IfOk result (λ why. (before : List Answered) (c : Command) → AreLedgersOf before self.old
             → JudgesLine before (answered c (Alone (ReportLine.Received line.now))) why self.new) }
+        ensures memory { OnErr result ((before : List Answered) (c : Command) → AreLedgersOf before self.old
+            → IsRightLine before (answered c (Alone (ReportLine.Received line.now)))) }
     {
         let lane = lane_of(line);
         if self.messages.receive(lane, line.sport, line.body.bytes()) {

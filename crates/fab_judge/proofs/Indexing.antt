@@ -7,7 +7,7 @@ use Rattle.map_defs.specs.declared.vertex.MapVertex.{MapVertex}
 use Rattle.map_defs.specs.declared.vertex.MapVertex.TheVariants.{Host, Switch}
 use Rattle.map_defs.specs.NetMap.{NetMap, IsMap, switches_of, switch_at}
 use Rattle.map_canon.specs.Declaring.{IsSwitchIndex}
-use Rattle.fab_judge.specs.Past.{with_place}
+use Rattle.fab_judge.specs.Shown.{with_place}
 use Rattle.map_canon.proofs.Indexed.{index-none, index-host, index-switch}
 
 at-take : {X : Type 0} (xs : List X) (i : ℕ) (x : X) → slice_get xs i ≡ Some x → take (suc i) xs ≡ take i xs ++ x ∷ []

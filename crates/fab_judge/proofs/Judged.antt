@@ -31,7 +31,9 @@ use Rattle.fab_judge.specs.declared.stop.Unread.{Unread}
 use Rattle.fab_judge.specs.declared.stop.Unread.TheVariants.{At, NoMemory as NoRoom}
 use Rattle.fab_judge.specs.declared.answer.Answer.{Answer as AnswerRead}
 use Rattle.fab_judge.specs.declared.answer.Answer.TheVariants.{WithTables as TablesRead, WithBroken as BrokenRead}
-use Rattle.fab_judge.specs.Past.{Shown, PastState, map_in, complete_in, known_in, IsPastOf, is_map, complete_host, shown_with, after_line, after_map}
+use Rattle.fab_judge.specs.Shown.{Shown, map_in, complete_in}
+use Rattle.fab_judge.specs.Past.{known_in, IsPastOf, is_map, complete_host, shown_with, after_line, after_map}
+use Rattle.fab_judge.specs.declared.past.Past.{Past as PastState}
 use Rattle.fab_judge.specs.Reading.{ReaderState, AreNumbered, begun, first_number}
 use Rattle.fab_judge.specs.Answers.{GivesAnswer, IsAs}
 use Rattle.fab_judge.specs.Judging.{Judges, FindsFaultOn, JudgesAnswer, JudgesNext, Decides, verdict_of, stop_of}

@@ -1,12 +1,12 @@
 -- The next line, by what it says and what is due.
-use Rattle.std.proofs.Common.{◌≡◌, ℕ, List, [], ◌∷◌, Option, Some, None, Result, Ok, Err, refl, ap, sym, ◌∙◌, subst}
+use Rattle.std.proofs.Common.{◌≡◌, ℕ, List, [], ◌∷◌, Option, Some, None, Result, Ok, Err, IfOk, refl, ap, sym, ◌∙◌, subst}
 use Rattle.std.specs.Prelude.{option_and_then}
 use Rattle.net_defs.specs.Network.{Network}
 use Rattle.fab_text.specs.Line.{TextLine, words_of}
 use Rattle.line_forms.specs.declared.line.ReportLine.{ReportLine}
 use Rattle.report_lines.specs.Lines.{line_said}
 use Rattle.judge_defs.specs.Form.{where_due, next_due}
-use Rattle.fab_judge.specs.Reading.{Gives, numbered, next_said}
+use Rattle.fab_judge.specs.Reading.{Gives, numbered, next_said, found}
 use Rattle.fab_judge.specs.declared.stop.Unread.{Unread}
 use Rattle.fab_judge.proofs.Lists.{ok-same}
 
@@ -67,3 +67,14 @@ due-fault due past n (l ∷ ls) line e = by (line_said n (words_of l.bytes)) e
     by : (o : Option ReportLine) → numbered l.number ls o ≡ Err line → where_due l.number ls (option_and_then due o) ≡ Err line
     by None g = ap (λ k. Err k) (err-same (numbered l.number ls None) l.number line refl g)
     by (Some x) g = cc
+
+-- so the answer is what is due
+pub due-either : {X : Type 0} (due : ReportLine → Option X) (past : ℕ) (n : Network) (ls left : List TextLine) (number : ℕ) (said : ReportLine) (o : Option X) (r : Result X Unread)
+    → next_said past n ls ≡ Ok ((number, said), left) → o ≡ due said → r ≡ found number o → Gives (next_due due past n ls) left r
+due-either due past n ls left number said None r e d f = subst (λ q. Gives (next_due due past n ls) left q) (sym f) (due-wrong due past n ls left number said e (sym d))
+due-either due past n ls left number said (Some x) r e d f = subst (λ q. Gives (next_due due past n ls) left q) (sym f) (due-found due past n ls left number said x e (sym d))
+
+-- what holds in any case does where something was read
+pub any-ok : {X E : Type 0} (r : Result X E) (P : Type 0) → P → IfOk r (λ x. P)
+any-ok (Ok x) P p = p
+any-ok (Err e) P p = tt

@@ -1,5 +1,5 @@
 -- The lines of broken routes.
-use Rattle.std.proofs.Common.{◌≡◌, ℕ, List, [], ◌∷◌, ◌++◌, Bool, true, false, Option, Some, None, Result, Ok, Err, refl, ap, ◌∙◌, if◌then◌else◌}
+use Rattle.std.proofs.Common.{◌≡◌, ℕ, List, [], ◌∷◌, ◌++◌, Bool, true, false, Option, Some, None, Result, Ok, Err, refl, ap, sym, subst, ◌∙◌, if◌then◌else◌}
 use Rattle.net_defs.specs.Network.{Network}
 use Rattle.fab_text.specs.Line.{TextLine, words_of}
 use Rattle.fab_text.specs.Fault.{and_then}
@@ -22,18 +22,20 @@ pair-taken before past n ls left number said t =
     ∙ ap (λ o. pair_of_line n before t.line.number left o) t.says
     ∙ ap (λ k. pair_of_line n before k left (Some said)) t.at
 
-pub pair-end : (before : Option (ℕ × ℕ)) (past : ℕ) (n : Network) (ls left : List TextLine) (number : ℕ) (said : ReportLine)
-    → next_said past n ls ≡ Ok ((number, said), left) → is_end_of_broken (Some said) ≡ true → next_pair before past n ls ≡ Ok (None, left)
-pair-end before past n ls left number said e t =
-    pair-taken before past n ls left number said (next-taken past n ls number said left e)
-    ∙ ap (λ b. if b then Ok (None, left) else pair_or_none number left (pair_due n before (Some said))) t
+-- the next pair by what the line says
+pub pair-by : (before : Option (ℕ × ℕ)) (past : ℕ) (n : Network) (ls left : List TextLine) (number : ℕ) (said : ReportLine) (r : Result (Option (ℕ × ℕ)) Unread)
+    → next_said past n ls ≡ Ok ((number, said), left) → Gives (pair_of_line n before number left (Some said)) left r → Gives (next_pair before past n ls) left r
+pair-by before past n ls left number said r e g =
+    subst (λ s. Gives s left r) (sym (pair-taken before past n ls left number said (next-taken past n ls number said left e))) g
 
-pub pair-said : (before : Option (ℕ × ℕ)) (past : ℕ) (n : Network) (ls left : List TextLine) (number : ℕ) (said : ReportLine) (o : Option (ℕ × ℕ))
-    → next_said past n ls ≡ Ok ((number, said), left) → is_end_of_broken (Some said) ≡ false → pair_due n before (Some said) ≡ o → next_pair before past n ls ≡ pair_or_none number left o
-pair-said before past n ls left number said o e t d =
-    pair-taken before past n ls left number said (next-taken past n ls number said left e)
-    ∙ ap (λ b. if b then Ok (None, left) else pair_or_none number left (pair_due n before (Some said))) t
-    ∙ ap (pair_or_none number left) d
+pub pair-end : (before : Option (ℕ × ℕ)) (n : Network) (left : List TextLine) (number : ℕ) (said : ReportLine)
+    → is_end_of_broken (Some said) ≡ true → pair_of_line n before number left (Some said) ≡ Ok (None, left)
+pair-end before n left number said t = ap (λ b. if b then Ok (None, left) else pair_or_none number left (pair_due n before (Some said))) t
+
+pub pair-said : (before : Option (ℕ × ℕ)) (n : Network) (left : List TextLine) (number : ℕ) (said : ReportLine) (o : Option (ℕ × ℕ))
+    → is_end_of_broken (Some said) ≡ false → pair_due n before (Some said) ≡ o → pair_of_line n before number left (Some said) ≡ pair_or_none number left o
+pair-said before n left number said o t d =
+    ap (λ b. if b then Ok (None, left) else pair_or_none number left (pair_due n before (Some said))) t ∙ ap (pair_or_none number left) d
 
 err-same : {X E : Type 0} (r : Result X E) (x y : E) → r ≡ Err x → r ≡ Err y → x ≡ y
 err-same r x y e f = cc

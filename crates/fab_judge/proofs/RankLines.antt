@@ -1,5 +1,5 @@
 -- The lines of ranks.
-use Rattle.std.proofs.Common.{◌≡◌, ℕ, List, [], ◌∷◌, ◌++◌, Bool, true, false, Option, Some, None, Result, Ok, Err, refl, ap, sym, ◌∙◌, if◌then◌else◌}
+use Rattle.std.proofs.Common.{◌≡◌, ℕ, List, [], ◌∷◌, ◌++◌, Bool, true, false, Option, Some, None, Result, Ok, Err, refl, ap, sym, subst, ◌∙◌, if◌then◌else◌}
 use Rattle.std.specs.Prelude.{option_and_then}
 use Rattle.net_defs.specs.Network.{Network}
 use Rattle.map_defs.specs.declared.rank.RankEntry.{RankEntry}
@@ -25,18 +25,20 @@ rank-taken shown before past n ls left number said t =
     ∙ ap (λ o. rank_of_line shown before t.line.number left o) t.says
     ∙ ap (λ k. rank_of_line shown before k left (Some said)) t.at
 
-pub rank-end : (shown : Option NetMap) (before : Option RankEntry) (past : ℕ) (n : Network) (ls left : List TextLine) (number : ℕ) (said : ReportLine)
-    → next_said past n ls ≡ Ok ((number, said), left) → is_end_of_routes (Some said) ≡ true → next_rank shown before past n ls ≡ Ok (None, left)
-rank-end shown before past n ls left number said e t =
-    rank-taken shown before past n ls left number said (next-taken past n ls number said left e)
-    ∙ ap (λ b. if b then Ok (None, left) else rank_or_none number left (rank_due shown before said)) t
+-- the next rank by what the line says
+pub rank-by : (shown : Option NetMap) (before : Option RankEntry) (past : ℕ) (n : Network) (ls left : List TextLine) (number : ℕ) (said : ReportLine) (r : Result (Option RankEntry) Unread)
+    → next_said past n ls ≡ Ok ((number, said), left) → Gives (rank_of_line shown before number left (Some said)) left r → Gives (next_rank shown before past n ls) left r
+rank-by shown before past n ls left number said r e g =
+    subst (λ s. Gives s left r) (sym (rank-taken shown before past n ls left number said (next-taken past n ls number said left e))) g
 
-pub rank-said : (shown : Option NetMap) (before : Option RankEntry) (past : ℕ) (n : Network) (ls left : List TextLine) (number : ℕ) (said : ReportLine) (o : Option RankEntry)
-    → next_said past n ls ≡ Ok ((number, said), left) → is_end_of_routes (Some said) ≡ false → rank_due shown before said ≡ o → next_rank shown before past n ls ≡ rank_or_none number left o
-rank-said shown before past n ls left number said o e t d =
-    rank-taken shown before past n ls left number said (next-taken past n ls number said left e)
-    ∙ ap (λ b. if b then Ok (None, left) else rank_or_none number left (rank_due shown before said)) t
-    ∙ ap (rank_or_none number left) d
+pub rank-end : (shown : Option NetMap) (before : Option RankEntry) (left : List TextLine) (number : ℕ) (said : ReportLine)
+    → is_end_of_routes (Some said) ≡ true → rank_of_line shown before number left (Some said) ≡ Ok (None, left)
+rank-end shown before left number said t = ap (λ b. if b then Ok (None, left) else rank_or_none number left (rank_due shown before said)) t
+
+pub rank-said : (shown : Option NetMap) (before : Option RankEntry) (left : List TextLine) (number : ℕ) (said : ReportLine) (o : Option RankEntry)
+    → is_end_of_routes (Some said) ≡ false → rank_due shown before said ≡ o → rank_of_line shown before number left (Some said) ≡ rank_or_none number left o
+rank-said shown before left number said o t d =
+    ap (λ b. if b then Ok (None, left) else rank_or_none number left (rank_due shown before said)) t ∙ ap (rank_or_none number left) d
 
 err-same : {X E : Type 0} (r : Result X E) (x y : E) → r ≡ Err x → r ≡ Err y → x ≡ y
 err-same r x y e f = cc

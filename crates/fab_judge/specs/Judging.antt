@@ -21,7 +21,8 @@ use Rattle.fab_text.specs.declared.fault.TextFault.{TextFault}
 use Rattle.fab_text.specs.declared.fault.TextFault.TheVariants.{NoMemory as OutOfMemory}
 use Rattle.fab_judge.specs.declared.verdict.Verdict.{Verdict}
 use Rattle.fab_judge.specs.declared.verdict.Verdict.TheVariants.{Yes, No}
-use Rattle.fab_judge.specs.Past.{PastState, IsPastOf}
+use Rattle.fab_judge.specs.Past.{IsPastOf}
+use Rattle.fab_judge.specs.declared.past.Past.{Past as PastState}
 use Rattle.fab_judge.specs.Reading.{ReaderState}
 
 -- An answer is right, and what is kept is told of it; or it fails at this place among its lines.

@@ -3,4 +3,5 @@ pub mod Blocks
 pub mod Judging
 pub mod Past
 pub mod Reading
+pub mod Shown
 pub mod Verdicts

@@ -1,9 +1,6 @@
 -- What the code keeps of the answers so far.
-use Rattle.std.specs.Prelude.{◌≡◌, ℕ, Bool, true, false, List, [], ◌∷◌, ◌++◌, if◌then◌else◌}
-use Rattle.std.specs.Prelude.{Option, Some, None, option_map}
+use Rattle.std.specs.Prelude.{◌≡◌, ℕ, Bool, true, false, List, Option, Some, None, if◌then◌else◌}
 use Rattle.net_defs.specs.Network.{Network}
-use Rattle.map_defs.specs.declared.vertex.MapVertex.{MapVertex}
-use Rattle.map_defs.specs.declared.vertex.MapVertex.TheVariants.{Switch}
 use Rattle.map_defs.specs.NetMap.{NetMap}
 use Rattle.line_forms.specs.declared.line.MapSaid.{MapSaid}
 use Rattle.line_forms.specs.declared.line.MapSaid.TheVariants.{Complete}
@@ -11,31 +8,10 @@ use Rattle.line_forms.specs.declared.line.ReportLine.{ReportLine}
 use Rattle.line_forms.specs.declared.line.ReportLine.TheVariants.{Map as MapLine}
 use Rattle.answer_defs.specs.Answer.{Alone, Answered, complete_map, shown_map, routed_hosts, are_adopted}
 use Rattle.answer_defs.specs.Answer.{fabric_by, fabric_after}
-use Rattle.answer_checks.specs.Ledgers.{LedgersState, AreLedgersOf}
+use Rattle.answer_checks.specs.Ledgers.{AreLedgersOf}
 use Rattle.judge_defs.specs.Form.{Known}
-
--- The last map that has lines, and whether its word was `complete`.
-pub record Shown : Type 0 where
-  pub map : NetMap
-  pub complete : Bool
-
--- What is kept: the last map that has lines, the hosts of the last routes, whether routes are adopted, the fabric as it
--- stands, messages that wait and tokens that are held.
-pub record PastState : Type 0 where
-  pub shown : Option Shown
-  pub routed : Option (List ℕ)
-  pub adopted : Bool
-  pub fabric : Network
-  pub ledgers : LedgersState
-
--- the map of what is kept
-abbrev pub map_in : Option Shown → Option NetMap
-map_in shown = option_map (λ s. s.map) shown
-
--- the same, where it is complete
-abbrev pub complete_in : Option Shown → Option NetMap
-complete_in None = None
-complete_in (Some s) = if s.complete then Some s.map else None
+use Rattle.fab_judge.specs.Shown.{Shown, map_in, complete_in}
+use Rattle.fab_judge.specs.declared.past.Past.{Past as PastState}
 
 -- what an answer's form depends on
 abbrev pub known_in : PastState → Known
@@ -49,11 +25,6 @@ pub record IsPastOf (n : Network) (before : List Answered) (p : PastState) : Typ
   pub adopted : p.adopted ≡ are_adopted before
   pub fabric : p.fabric ≡ fabric_after n before
   pub ledgers : AreLedgersOf before p.ledgers
-
--- the places of switches, with that of a vertex where it is one
-abbrev pub with_place : Option MapVertex → ℕ → List ℕ → List ℕ
-with_place (Some (Switch s)) v places = places ++ v ∷ []
-with_place vertex v places = places
 
 -- a line of a map
 abbrev pub is_map : ReportLine → Bool

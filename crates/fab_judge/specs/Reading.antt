@@ -87,3 +87,8 @@ abbrev pub Passes : {X : Type 0} → Reads (List X) → List TextLine → Result
 Passes {X} said left (Ok done) = (xs : List X) × (said ≡ Ok (xs, left))
 Passes said left (Err (At line)) = said ≡ Err line
 Passes said left (Err NoMemory) = Unit {0}
+
+-- what was due, or the number of its line, which is out of form
+abbrev pub found : {X : Type 0} → ℕ → Option X → Result X Unread
+found number None = Err (At number)
+found number (Some x) = Ok x

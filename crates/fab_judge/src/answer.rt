@@ -5,13 +5,14 @@ ghost use Rattle.line_forms.specs.declared.line.ReportLine.TheVariants.{NoBroken
 ghost use Rattle.judge_defs.specs.Form.{answer_from, map_block, routes_block, tables_block, tables_of, pair_in};
 ghost use Rattle.judge_defs.specs.Form.{broken_block, refused_block};
 ghost use Rattle.map_canon.specs.Reading.{map_part};
-ghost use Rattle.fab_judge.specs.Past.{known_in, map_in};
+ghost use Rattle.fab_judge.specs.Shown.{map_in};
+ghost use Rattle.fab_judge.specs.Past.{known_in};
 ghost use Rattle.fab_judge.specs.Reading.{AreNumbered, begun};
 ghost use Rattle.fab_judge.specs.Answers.{GivesAnswer, more_lines};
 ghost use Rattle.fab_judge.specs.Blocks.{block_in, block_by};
 
 use crate::block::{Block, block_in};
-use crate::broken::{read_broken, refused_pair};
+use crate::broken::read_broken;
 use crate::past::Past;
 use crate::ranks::read_ranks;
 use crate::reader::Reader;
@@ -20,7 +21,7 @@ use crate::shown::ShownMap;
 use crate::stop::Unread;
 use crate::tables::read_tables;
 use fabric_map::FabricMap;
-use judge_defs::may_answer;
+use judge_defs::{may_answer, refused_pair};
 use line_forms::ReportLine;
 use port_graph::{Fabric, RouteSet};
 use rank_cert::Ranks;

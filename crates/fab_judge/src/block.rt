@@ -6,7 +6,7 @@ ghost use Rattle.fab_judge.specs.Blocks.{block_in, block_of_map};
 use line_forms::{MapSaid, ReportLine};
 
 /// The lines that follow a first line.
-#[derive(Clone, Copy, Debug, PartialEq, Eq)]
+#[derive(Clone, Copy)]
 pub(crate) enum Block {
     /// Those of a map.
     Map,

@@ -1,14 +1,15 @@
 //! The broken routes of an answer.
 
-ghost use Rattle.std.specs.Prelude.{◌≡◌, IfOk, Some, None};
-ghost use Rattle.line_forms.specs.declared.line.ReportLine.TheVariants.{NoBroken};
-ghost use Rattle.judge_defs.specs.Form.{broken_lines, pair_in, pair_due, is_pair_above, is_end_of_broken};
+ghost use Rattle.std.specs.Prelude.{◌≡◌, List, IfOk, Some, None};
+ghost use Rattle.fab_text.specs.Line.{TextLine};
+ghost use Rattle.judge_defs.specs.Form.{broken_lines};
 ghost use Rattle.fab_judge.specs.Reading.{Gives, Passes, HasRead};
-ghost use Rattle.fab_judge.specs.Blocks.{next_pair};
+ghost use Rattle.fab_judge.specs.Blocks.{next_pair, pair_of_line};
 
 use crate::reader::Reader;
 use crate::stop::Unread;
-use line_forms::{ReportLine, host};
+use judge_defs::{is_end_of_broken, pair_due};
+use line_forms::ReportLine;
 use port_graph::Fabric;
 
 /// Reads broken routes after this one, which rise, up to `endbroken`.
@@ -36,66 +37,25 @@ fn next_pair(
     ensures read { IfOk result (λ _. HasRead reader.old reader.new 1) }
 {
     match reader.next_said(f) {
-        Ok((number, line)) => {
-            if is_end_of_broken(&line) {
-                return Ok(None);
-            }
-            match pair_due(f, before, &line) {
-                Some(pair) => Ok(Some(pair)),
-                None => Err(Unread::At(number)),
-            }
-        }
+        Ok((number, line)) => pair_of_line(f, before, number, &line),
         Err(stop) => Err(stop),
     }
 }
 
-// Whether a line is `endbroken`.
-fn is_end_of_broken(line: &ReportLine) -> bool
-    ensures { result ≡ is_end_of_broken (Some line.now) }
+// The broken route of the line of this number, or none where it is `endbroken`.
+fn pair_of_line(
+    f: &Fabric,
+    before: (u16, u16),
+    number: u32,
+    line: &ReportLine,
+) -> Result<Option<(u16, u16)>, Unread>
+    ensures { (left : List TextLine) → Gives (pair_of_line f.now (Some before) number left (Some line.now)) left result }
 {
-    match line {
-        ReportLine::EndBroken => true,
-        _ => false,
+    if is_end_of_broken(line) {
+        return Ok(None);
     }
-}
-
-// The pair of a line, where it may stand after the one before it.
-fn pair_due(f: &Fabric, before: (u16, u16), line: &ReportLine) -> Option<(u16, u16)>
-    ensures { result ≡ pair_due f.now (Some before) (Some line.now) }
-{
-    match pair_in(f, line) {
-        Some(pair) if is_pair_above(before, pair) => Some(pair),
-        _ => None,
+    match pair_due(f, before, line) {
+        Some(pair) => Ok(Some(pair)),
+        None => Err(Unread::At(number)),
     }
-}
-
-// The hosts that a line `broken` names.
-fn pair_in(f: &Fabric, line: &ReportLine) -> Option<(u16, u16)>
-    ensures { result ≡ pair_in f.now line.now }
-{
-    match line {
-        ReportLine::Broken { from, to } => Some((*from, *to)),
-        ReportLine::NoBroken => refused_pair(f),
-        _ => None,
-    }
-}
-
-/// The hosts that are called `refused` and `noroutes`, where there are both.
-pub(crate) fn refused_pair(f: &Fabric) -> Option<(u16, u16)>
-    ensures { result ≡ pair_in f.now NoBroken }
-{
-    match (
-        host(f, b"refused".as_slice()),
-        host(f, b"noroutes".as_slice()),
-    ) {
-        (Some(from), Some(to)) => Some((from, to)),
-        _ => None,
-    }
-}
-
-// Whether a pair is above the one before it: by its sender, and then by its receiver.
-fn is_pair_above(before: (u16, u16), pair: (u16, u16)) -> bool
-    ensures { result ≡ is_pair_above (Some before) pair }
-{
-    before.0 < pair.0 || (before.0 == pair.0 && before.1 < pair.1)
 }

@@ -5,7 +5,8 @@ ghost use Rattle.net_defs.specs.Network.{Network};
 ghost use Rattle.answer_defs.specs.Answer.{Answer as SaidAnswer, Answered, Alone, WithMap, WithRoutes, answered};
 ghost use Rattle.answer_defs.specs.Answer.{hosts_in};
 ghost use Rattle.answer_defs.specs.Right.{MapIsTrue};
-ghost use Rattle.fab_judge.specs.Past.{IsPastOf, map_in, complete_host};
+ghost use Rattle.fab_judge.specs.Shown.{map_in};
+ghost use Rattle.fab_judge.specs.Past.{IsPastOf, complete_host};
 ghost use Rattle.fab_judge.specs.Judging.{Judges, IsWithin, FindsFaultOn};
 ghost use Rattle.fab_judge.specs.Answers.{IsAs, more_lines};
 
@@ -35,9 +36,9 @@ pub(crate) fn fault_of(
     ensures within { IfOk result (λ fault. IsWithin fault (more_lines answer)) }
 {
     match answer {
-        Answer::Alone(line) => fault_alone(past, command, line),
-        Answer::WithMap(line, map) => fault_with_map(alloc, past, line, map),
-        Answer::WithRoutes(routes, ranks) => fault_with_routes(alloc, f, past, routes, ranks),
+        Answer::Alone(line) => fault_alone(past, command, &line),
+        Answer::WithMap(line, map) => fault_with_map(alloc, past, &line, map),
+        Answer::WithRoutes(routes, ranks) => fault_with_routes(alloc, f, past, &routes, ranks),
         Answer::WithTables => {
             past.adopted = true;
             Ok(None)
@@ -50,17 +51,17 @@ pub(crate) fn fault_of(
 fn fault_alone(
     past: &mut Past,
     command: &Command,
-    line: ReportLine,
+    line: &ReportLine,
 ) -> Result<Option<(usize, Why)>, AllocError>
     ensures judges { IfOk result (λ fault. (n : Network) (before : List Answered) → IsPastOf n before past.old
-        → Judges n before (answered command.now (Alone line)) fault past.new) }
+        → Judges n before (answered command.now (Alone line.now)) fault past.new) }
     ensures within { IfOk result (λ fault. IsWithin fault 0) }
 {
-    let judged = judge_line(&mut past.ledgers, command, &line)?;
+    let judged = judge_line(&mut past.ledgers, command, line)?;
     match judged {
         Some(why) => Ok(Some((0, why))),
         None => {
-            past.follow(&line)?;
+            past.follow(line)?;
             Ok(None)
         }
     }
@@ -70,18 +71,18 @@ fn fault_alone(
 fn fault_with_map(
     alloc: Global,
     past: &mut Past,
-    line: ReportLine,
+    line: &ReportLine,
     map: FabricMap,
 ) -> Result<Option<(usize, Why)>, AllocError>
     ensures judges { IfOk result (λ fault. (n : Network) (before : List Answered) (c : Command)
-        → IsPastOf n before past.old → Judges n before (answered c (WithMap line map)) fault past.new) }
+        → IsPastOf n before past.old → Judges n before (answered c (WithMap line.now map)) fault past.new) }
     ensures within { IfOk result (λ fault. IsWithin fault 0) }
 {
-    let is_right = is_map_true(alloc, &past.fabric, &line, &map)?;
+    let is_right = is_map_true(alloc, &past.fabric, line, &map)?;
     if !is_right {
         return Ok(Some((0, Why::Map)));
     }
-    past.show(alloc, &line, map)?;
+    past.show(alloc, line, map)?;
     Ok(None)
 }
 
@@ -118,14 +119,14 @@ fn fault_with_routes(
     alloc: Global,
     f: &Fabric,
     past: &mut Past,
-    routes: RouteSet,
+    routes: &RouteSet,
     ranks: Ranks,
 ) -> Result<Option<(usize, Why)>, AllocError>
     ensures judges { IfOk result (λ fault. (before : List Answered) (c : Command) → IsPastOf f.now before past.old
-        → Judges f.now before (answered c (WithRoutes routes ranks)) fault past.new) }
-    ensures within { IfOk result (λ fault. IsWithin fault (length routes + (length ranks + 1))) }
+        → Judges f.now before (answered c (WithRoutes routes.now ranks)) fault past.new) }
+    ensures within { IfOk result (λ fault. IsWithin fault (length routes.now + (length ranks + 1))) }
 {
-    match fault_on(complete_map(&past.shown), &routes, ranks) {
+    match fault_on(complete_map(&past.shown), routes, ranks) {
         Some(fault) => Ok(Some(fault)),
         None => {
             let routed = routed_hosts(alloc, f, &past.shown)?;

@@ -1,6 +1,6 @@
 //! The judgement of a report, command by command.
 
-ghost use Rattle.std.specs.Prelude.{◌≡◌, ◌↔◌, ◌≤◌, ◌<◌, ◌+◌, ◌-◌, ◌⊎◌, ℕ, List, length, IfOk, IsErrOf, IsOk, Ok, Err};
+ghost use Rattle.std.specs.Prelude.{◌≡◌, ◌↔◌, ◌≤◌, ◌<◌, ◌+◌, ◌-◌, ◌⊎◌, ℕ, List, [], length, IfOk, IsErrOf, IsOk, Ok, Err};
 ghost use Rattle.fab_text.specs.Line.{line_count, lines_left};
 ghost use Rattle.fab_text.specs.declared.fault.FaultKind.{FaultKind};
 ghost use Rattle.fabric_file.specs.Reading.{fabric_reading};
@@ -131,8 +131,22 @@ fn judge_answers(
     ensures { Decides f.now reader.old.past commands.now reader.old.left result }
 {
     let mut past = Past::new(alloc, fabric);
+    judge_all(alloc, f, commands, &mut past, reader)
+}
+
+// The same, where no answer was told so far.
+fn judge_all(
+    alloc: Global,
+    f: &Fabric,
+    commands: &[Command],
+    past: &mut Past,
+    reader: &mut Reader,
+) -> Result<(), Stop>
+    requires { IsPastOf f.now [] past.old }
+    ensures { Decides f.now reader.old.past commands.now reader.old.left result }
+{
     'answers: for command in commands {
-        judge_next(alloc, f, command, &mut past, reader)?;
+        judge_next(alloc, f, command, past, reader)?;
     }
     match reader.first_left() {
         Some(line) => Err(Stop::Fails(line, Why::Form)),

@@ -10,7 +10,6 @@ use fabric_map::FabricMap;
 use line_forms::{MapSaid, ReportLine};
 use port_graph::{End, Fabric, GraphFault};
 use std::alloc::{AllocError, Global};
-use std::marker::Model;
 
 /// What the answers so far say.
 #[derive(Drop)]
@@ -25,20 +24,6 @@ pub(crate) struct Past {
     pub(crate) fabric: Fabric,
     /// The messages that were sent and not received, and the tokens that clients hold.
     pub(crate) ledgers: Ledgers,
-}
-
-impl Model for Past {
-    ghost use Rattle.fab_judge.specs.Past.{PastState};
-
-    ghost Value = { PastState };
-
-    ghost view = { λ p. record {
-      shown = p.shown;
-      routed = p.routed;
-      adopted = p.adopted;
-      fabric = p.fabric;
-      ledgers = p.ledgers;
-    } };
 }
 
 impl Past {

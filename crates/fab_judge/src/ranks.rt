@@ -1,15 +1,17 @@
 //! The ranks of an answer.
 
-ghost use Rattle.std.specs.Prelude.{◌≡◌, ◌+◌, IfOk, None, Some, length};
-ghost use Rattle.judge_defs.specs.Form.{rank_lines, rank_due, rank_told, where_above, is_rank_above, is_end_of_routes};
+ghost use Rattle.std.specs.Prelude.{◌≡◌, ◌+◌, List, IfOk, None, Some, length};
+ghost use Rattle.fab_text.specs.Line.{TextLine};
+ghost use Rattle.judge_defs.specs.Form.{rank_lines, rank_due, rank_told, where_above, is_rank_above};
 ghost use Rattle.map_defs.specs.NetMap.{port_below};
 ghost use Rattle.fab_judge.specs.Reading.{Gives, GivesItems, HasRead};
-ghost use Rattle.fab_judge.specs.Blocks.{next_rank};
-ghost use Rattle.fab_judge.specs.Past.{map_in};
+ghost use Rattle.fab_judge.specs.Blocks.{next_rank, rank_of_line};
+ghost use Rattle.fab_judge.specs.Shown.{map_in};
 
 use crate::reader::Reader;
 use crate::shown::ShownMap;
 use crate::stop::Unread;
+use judge_defs::is_end_of_routes;
 use line_forms::ReportLine;
 use map_defs::{MapVertex, RankEntry};
 use port_graph::Fabric;
@@ -54,26 +56,27 @@ fn next_rank(
     ensures read { IfOk result (λ _. HasRead reader.old reader.new 1) }
 {
     match reader.next_said(f) {
-        Ok((number, line)) => {
-            if is_end_of_routes(&line) {
-                return Ok(None);
-            }
-            match rank_due(shown, before, &line) {
-                Some(rank) => Ok(Some(rank)),
-                None => Err(Unread::At(number)),
-            }
-        }
+        Ok((number, line)) => rank_of_line(shown, before, number, &line),
         Err(stop) => Err(stop),
     }
 }
 
-// Whether a line is `endroutes`.
-fn is_end_of_routes(line: &ReportLine) -> bool
-    ensures { result ≡ is_end_of_routes (Some line.now) }
+// The rank of the line of this number, or none where it is `endroutes`.
+fn rank_of_line(
+    shown: &Option<ShownMap>,
+    before: Option<RankEntry>,
+    number: u32,
+    line: &ReportLine,
+) -> Result<Option<RankEntry>, Unread>
+    ensures { (left : List TextLine) → Gives (rank_of_line (map_in shown.now) before number left (Some line.now)) left
+        result }
 {
-    match line {
-        ReportLine::EndRoutes => true,
-        _ => false,
+    if is_end_of_routes(line) {
+        return Ok(None);
+    }
+    match rank_due(shown, before, line) {
+        Some(rank) => Ok(Some(rank)),
+        None => Err(Unread::At(number)),
     }
 }
 

@@ -3,7 +3,7 @@
 ghost use Rattle.std.specs.Prelude.{◌≡◌, IfOk, OnOk, option_copied, slice_get};
 ghost use Rattle.map_canon.specs.Declaring.{IsSwitchIndex};
 ghost use Rattle.judge_defs.specs.Form.{vertex_told};
-ghost use Rattle.fab_judge.specs.Past.{complete_in, with_place};
+ghost use Rattle.fab_judge.specs.Shown.{complete_in, with_place};
 
 use fabric_map::FabricMap;
 use map_defs::MapVertex;
@@ -22,7 +22,7 @@ pub(crate) struct ShownMap {
 }
 
 impl Model for ShownMap {
-    ghost use Rattle.fab_judge.specs.Past.{Shown};
+    ghost use Rattle.fab_judge.specs.Shown.{Shown};
     ghost use Rattle.map_canon.specs.Declaring.{IsSwitchIndex};
 
     ghost Value = { Shown };

@@ -3,7 +3,7 @@
 use judge_defs::Why;
 
 /// Why lines are no answer.
-#[derive(Clone, Copy, Debug, PartialEq, Eq)]
+#[derive(Clone, Copy)]
 pub(crate) enum Unread {
     /// The line of this number is out of form, or missing.
     At(u32),
@@ -12,7 +12,7 @@ pub(crate) enum Unread {
 }
 
 /// Why a report isn't judged yes.
-#[derive(Clone, Copy, Debug, PartialEq, Eq)]
+#[derive(Clone, Copy)]
 pub(crate) enum Stop {
     /// The line of this number fails.
     Fails(u32, Why),

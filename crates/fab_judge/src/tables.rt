@@ -1,14 +1,13 @@
 //! The tables of an installation.
 
 ghost use Rattle.std.specs.Prelude.{◌≡◌, IfOk, Some, None};
-ghost use Rattle.judge_defs.specs.Form.{next_due, table_due, rising_table_due, is_address_above, table_lines};
-ghost use Rattle.judge_defs.specs.Form.{rising_tables, tables_of};
-ghost use Rattle.fab_judge.specs.Reading.{Gives, Passes, HasRead};
+ghost use Rattle.judge_defs.specs.Form.{next_due, table_due, rising_table_due, table_lines, rising_tables, tables_of};
+ghost use Rattle.fab_judge.specs.Reading.{Gives, Passes, HasRead, found};
 
 use crate::reader::Reader;
 use crate::stop::Unread;
 use answer_checks::Hosts;
-use line_forms::ReportLine;
+use judge_defs::{rising_table_due, table_due};
 use port_graph::Fabric;
 
 /// Reads the tables of so many hosts: of these, or, where none are known, of any by rising address. The line that says
@@ -66,21 +65,18 @@ fn read_table(f: &Fabric, reader: &mut Reader, due: u16) -> Result<u16, Unread>
     ensures read { IfOk result (λ _. HasRead reader.old reader.new 1) }
 {
     match reader.next_said(f) {
-        Ok((number, line)) => match table_due(due, &line) {
-            Some(host) => Ok(host),
-            None => Err(Unread::At(number)),
-        },
+        Ok((number, line)) => found(number, table_due(due, &line)),
         Err(stop) => Err(stop),
     }
 }
 
-// The host of a table, where it is due.
-fn table_due(due: u16, line: &ReportLine) -> Option<u16>
-    ensures { result ≡ table_due due line.now }
+// The host that was due; the line of this number is out of form where it says another.
+fn found(number: u32, host: Option<u16>) -> Result<u16, Unread>
+    ensures { result ≡ found number host }
 {
-    match line {
-        ReportLine::Table(host) if *host == due => Some(*host),
-        _ => None,
+    match host {
+        Some(host) => Ok(host),
+        None => Err(Unread::At(number)),
     }
 }
 
@@ -104,30 +100,7 @@ fn read_rising_table(f: &Fabric, reader: &mut Reader, before: Option<u16>) -> Re
     ensures read { IfOk result (λ _. HasRead reader.old reader.new 1) }
 {
     match reader.next_said(f) {
-        Ok((number, line)) => match rising_table_due(before, &line) {
-            Some(host) => Ok(host),
-            None => Err(Unread::At(number)),
-        },
+        Ok((number, line)) => found(number, rising_table_due(before, &line)),
         Err(stop) => Err(stop),
-    }
-}
-
-// The host of a table, where it is above the one before it.
-fn rising_table_due(before: Option<u16>, line: &ReportLine) -> Option<u16>
-    ensures { result ≡ rising_table_due before line.now }
-{
-    match line {
-        ReportLine::Table(host) if is_address_above(before, *host) => Some(*host),
-        _ => None,
-    }
-}
-
-// Whether an address is above the one before it.
-fn is_address_above(before: Option<u16>, host: u16) -> bool
-    ensures { result ≡ is_address_above before host }
-{
-    match before {
-        Some(b) => b < host,
-        None => true,
     }
 }

@@ -69,6 +69,10 @@ said_right past q r t is told held =
     subst (λ b. (b ≡ true) ↔ AreTokensRight past t) (sym told.said)
     (subst (λ o. (may_be_said t (port_for q t) ≡ true) ↔ MayBeSaidOf t o) (held.each (port_of t)) (said t (port_for q t)))
 
+-- a line that may be said is right
+pub may_right : (past : List Told) (q : Ports) (t : Told) → may_be_said t (port_for q t) ≡ true → AreHeld past q → AreTokensRight past t
+may_right past q t e held = subst (MayBeSaidOf t) (held.each (port_of t)) ((said t (port_for q t)).0 e)
+
 -- a port as it is kept, once a line was told
 put-told : (past : List Told) (q r : Ports) (t : Told) → IsPortPut q r (port_of t) (port_from t (port_for q t)) → AreHeld past q → (b : PortName)
     → lookup (is_port b) r ≡ (if is_port (port_of t) b then port_from t (port_told b past) else port_told b past)

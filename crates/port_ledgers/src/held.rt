@@ -1,6 +1,6 @@
 //! The tokens of one kind that a port's client holds.
 
-ghost use Rattle.std.specs.Prelude.{◌≡◌, nat_eq, position, length, IfOk, OnOk, OnErr};
+ghost use Rattle.std.specs.Prelude.{◌≡◌, true, nat_eq, position, length, IfOk, OnOk, OnErr};
 ghost use Rattle.std.specs.List.{range_with_len};
 ghost use Rattle.gm_defs.specs.Port.{without_first};
 ghost use Rattle.gm_defs.specs.Token.{has_number};
@@ -94,10 +94,11 @@ impl Held {
     }
 
     /// A token of so many comes back. False exactly where there is none of this number, or it is held; then, and on an
-    /// error, nothing changes.
+    /// error, nothing changes. Memory may run out only where it may come back.
     pub(crate) fn give_back(&mut self, count: u16, token: u64) -> Result<bool, AllocError>
         ensures out { IfOk result (λ is. is ≡ is_out count self.old token) }
         ensures back { OnOk result (self.new ≡ with_back count self.old token) }
+        ensures memory { OnErr result (is_out count self.old token ≡ true) }
         ensures err { OnErr result (self.new ≡ self.old) }
     {
         if token >= u64::from(count) || self.has(token) {

@@ -1,6 +1,6 @@
 //! An open port, as lines tell it.
 
-ghost use Rattle.std.specs.Prelude.{◌≡◌, ◌+◌, ◌&&◌, nat_eq, length, IfOk, OnOk, OnErr};
+ghost use Rattle.std.specs.Prelude.{◌≡◌, ◌+◌, true, ◌&&◌, nat_eq, length, IfOk, OnOk, OnErr};
 ghost use Rattle.gm_defs.specs.Port.{without_first};
 ghost use Rattle.gm_defs.specs.Token.{has_number};
 ghost use Rattle.world_defs.specs.Client.{new_client};
@@ -85,6 +85,7 @@ impl OpenPort {
         ensures out { IfOk result (λ is. is ≡ is_out self.old.sends self.old.client.sends token) }
         ensures back { OnOk result (self.new
             ≡ with_sends (with_back self.old.sends self.old.client.sends token) self.old) }
+        ensures memory { OnErr result (is_out self.old.sends self.old.client.sends token ≡ true) }
         ensures err { OnErr result (self.new ≡ self.old) }
     {
         self.held_sends.give_back(self.sends, token)
@@ -95,6 +96,7 @@ impl OpenPort {
         ensures out { IfOk result (λ is. is ≡ is_out self.old.recvs self.old.client.recvs token) }
         ensures back { OnOk result (self.new
             ≡ with_recvs (with_back self.old.recvs self.old.client.recvs token) self.old) }
+        ensures memory { OnErr result (is_out self.old.recvs self.old.client.recvs token ≡ true) }
         ensures err { OnErr result (self.new ≡ self.old) }
     {
         self.held_recvs.give_back(self.recvs, token)

@@ -92,13 +92,15 @@ impl TokenLedger {
     }
 
     /// A line tells that a send token came back. True exactly where the port is open, has it, and its client doesn't
-    /// hold it; else, and on an error, nothing is told.
-    #[tactic(auto, using(crate::proofs::Holding::said_right, crate::proofs::Holding::told_held, crate::proofs::Holding::refused_held, crate::proofs::Holding::kept_held))]
+    /// hold it; else, and on an error, nothing is told. Memory may run out only where it is true.
+    #[tactic(auto, using(crate::proofs::Holding::said_right, crate::proofs::Holding::told_held, crate::proofs::Holding::refused_held, crate::proofs::Holding::kept_held, crate::proofs::Holding::may_right))]
     pub fn give_back(&mut self, port: PortName, token: u64) -> Result<bool, AllocError>
         ensures right { IfOk result (λ is. (past : List Told) → AreHeld past self.old
             → (is ≡ true) ↔ AreTokensRight past (Returned port token)) }
         ensures told { result ≡ Ok true → (past : List Told) → AreHeld past self.old
             → AreHeld (Returned port token ∷ past) self.new }
+        ensures memory { OnErr result ((past : List Told) → AreHeld past self.old
+            → AreTokensRight past (Returned port token)) }
         ensures refused { result ≡ Ok false → (past : List Told) → AreHeld past self.old → AreHeld past self.new }
         ensures err { OnErr result ((past : List Told) → AreHeld past self.old → AreHeld past self.new) }
     {
@@ -106,12 +108,15 @@ impl TokenLedger {
     }
 
     /// A line tells that a message was received with a receive token. True exactly where the receiving port is open,
-    /// has it, and its client doesn't hold it; else, and on an error, nothing is told.
+    /// has it, and its client doesn't hold it; else, and on an error, nothing is told. Memory may run out only where it
+    /// is true.
     pub fn receive(&mut self, lane: Lane, token: u64) -> Result<bool, AllocError>
         ensures right { IfOk result (λ is. (past : List Told) (sport : ℕ) (body : List ℕ) → AreHeld past self.old
             → (is ≡ true) ↔ AreTokensRight past (Received lane sport body token)) }
         ensures told { result ≡ Ok true → (past : List Told) (sport : ℕ) (body : List ℕ) → AreHeld past self.old
             → AreHeld (Received lane sport body token ∷ past) self.new }
+        ensures memory { OnErr result ((past : List Told) (sport : ℕ) (body : List ℕ) → AreHeld past self.old
+            → AreTokensRight past (Received lane sport body token)) }
         ensures refused { result ≡ Ok false → (past : List Told) → AreHeld past self.old → AreHeld past self.new }
         ensures err { OnErr result ((past : List Told) → AreHeld past self.old → AreHeld past self.new) }
     {
@@ -198,6 +203,8 @@ impl TokenLedger {
     // A send token of a port comes back.
     fn send_back(&mut self, port: PortName, token: u64) -> Result<bool, AllocError>
         ensures told { IfOk result (λ is. IsToldTo self.old self.new (Returned port token) is) }
+        ensures memory { OnErr result (may_be_said (Returned port token)
+            (port_for self.old (Returned port token)) ≡ true) }
         ensures err { OnErr result (IsPortPut self.old self.new port (port_for self.old (Returned port token))) }
     {
         match self.ports.get_mut(&port) {
@@ -210,6 +217,8 @@ impl TokenLedger {
     fn recv_back(&mut self, lane: Lane, token: u64) -> Result<bool, AllocError>
         ensures told { IfOk result (λ is. (sport : ℕ) (body : List ℕ)
             → IsToldTo self.old self.new (Received lane sport body token) is) }
+        ensures memory { OnErr result ((sport : ℕ) (body : List ℕ) → may_be_said (Received lane sport body token)
+            (port_for self.old (Received lane sport body token)) ≡ true) }
         ensures err { OnErr result ((sport : ℕ) (body : List ℕ) → IsPortPut self.old self.new
             record { host = lane.to; port = lane.port } (port_for self.old (Received lane sport body token))) }
     {

@@ -1,7 +1,18 @@
-use Rattle.answer_checks.proofs.Telling.{silent, silent-judged}
+use Rattle.std.proofs.Common.{sym, subst}
+use Rattle.std.proofs.lemmas.Result.{on_err_weaker}
+use Rattle.line_forms.specs.declared.line.ReportLine.{ReportLine}
+use Rattle.answer_defs.specs.Answer.{Alone, answered}
+use Rattle.answer_checks.specs.Ledgers.{IsRightLine}
 use Rattle.answer_checks.proofs.calls.judge_line.Goals as goal
 
-pub returns-in_default-clause-judges : goal.returns-in_default-clause-judges
-returns-in_default-clause-judges c = λ before h.
-    let d = c.in_default in
-    silent-judged before c.args.command.now c.args.line.now c.args.ledgers.now (silent c.args.command.now c.args.line.now d.not-Opened d.not-Closed d.not-Provided d.not-Accepted d.not-Returned d.not-Received d.not-Tokens) h
+pub returns-in-Returned-clause-memory : goal.returns-in-Returned-clause-memory
+returns-in-Returned-clause-memory c =
+    on_err_weaker c.give_back.result
+    (λ right before held. subst (λ (l : ReportLine). IsRightLine before (answered c.args.command.now (Alone l))) (sym c.in-Returned.is) (right before c.args.command.now held))
+    c.give_back.ensures.memory
+
+pub returns-in-Received-clause-memory : goal.returns-in-Received-clause-memory
+returns-in-Received-clause-memory c =
+    on_err_weaker c.receive.result
+    (λ right before held. subst (λ (l : ReportLine). IsRightLine before (answered c.args.command.now (Alone l))) (sym c.in-Received.is) (right before c.args.command.now held))
+    c.receive.ensures.memory

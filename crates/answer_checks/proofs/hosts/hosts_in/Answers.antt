@@ -1,5 +1,6 @@
 use Rattle.std.proofs.Common.{◌<◌, ◌++◌, ◌∷◌, [], ap, sym, ◌∙◌, subst}
-use Rattle.answer_checks.proofs.Below.{host-more, host-missing, host-in, on-any}
+use Rattle.answer_checks.proofs.Below.{host-more, host-missing, host-in}
+use Rattle.answer_checks.proofs.Errors.{on-any}
 use Rattle.answer_checks.proofs.hosts.hosts_in.Goals as goal
 use Rattle.answer_checks.proofs.hosts.hosts_in.Goals.{then-has_host+in_ok-push, else-has_host}
 

@@ -1,6 +1,6 @@
 use Rattle.std.proofs.Common.{◌+◌, sym, subst, length}
 use Rattle.fab_judge.specs.Reading.{AreNumbered}
-use Rattle.fab_judge.specs.Past.{map_in}
+use Rattle.fab_judge.specs.Shown.{map_in}
 use Rattle.fab_judge.proofs.AnswerLines.{routes-not-read}
 use Rattle.fab_judge.proofs.Steps.{read_more, read_numbered}
 use Rattle.fab_judge.proofs.answer.read_routes_block.Goals as goal

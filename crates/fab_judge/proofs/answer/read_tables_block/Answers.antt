@@ -1,8 +1,4 @@
-use Rattle.std.proofs.Common.{ap, subst, Ok, Err}
-use Rattle.judge_defs.specs.Form.{tables_of, tables_block}
-use Rattle.fab_judge.specs.declared.answer.Answer.TheVariants.{WithTables as TablesRead}
-use Rattle.fab_judge.specs.Answers.{GivesAnswer}
-use Rattle.fab_judge.specs.Past.{PastState}
+use Rattle.judge_defs.specs.Form.{tables_of}
 use Rattle.fab_judge.proofs.AnswerLines.{tables-read, tables-not-read}
 use Rattle.fab_judge.proofs.Steps.{read_numbered}
 use Rattle.fab_judge.proofs.answer.read_tables_block.Goals as goal
@@ -10,9 +6,7 @@ use Rattle.fab_judge.proofs.answer.read_tables_block.Goals as goal
 pub returns-in-Ok-clause-said : goal.returns-in-Ok-clause-said
 returns-in-Ok-clause-said c =
     let r = c.args.reader.now in
-    let left = c.read_tables.new.reader.left in
-    subst (λ hosts. GivesAnswer (tables_block (tables_of c.args.number c.args.count hosts r.past c.args.f.now r.left)) left (Ok TablesRead)) (ap (λ (p : PastState). p.routed) c.past.view_is)
-    (tables-read (tables_of c.args.number c.args.count c.past.inside.routed r.past c.args.f.now r.left) left c.in-Ok.ensures.said)
+    tables-read (tables_of c.args.number c.args.count c.args.past.now.routed r.past c.args.f.now r.left) c.read_tables.new.reader.left c.in-Ok.ensures.said
 
 pub returns-in-Ok-clause-numbered : goal.returns-in-Ok-clause-numbered
 returns-in-Ok-clause-numbered c = read_numbered c.args.reader.now c.read_tables.new.reader 0 c.in-Ok.ensures.read
@@ -20,6 +14,4 @@ returns-in-Ok-clause-numbered c = read_numbered c.args.reader.now c.read_tables.
 pub returns-in-Err-clause-said : goal.returns-in-Err-clause-said
 returns-in-Err-clause-said c =
     let r = c.args.reader.now in
-    let left = c.read_tables.new.reader.left in
-    subst (λ hosts. GivesAnswer (tables_block (tables_of c.args.number c.args.count hosts r.past c.args.f.now r.left)) left (Err c.in-Err.stop)) (ap (λ (p : PastState). p.routed) c.past.view_is)
-    (tables-not-read (tables_of c.args.number c.args.count c.past.inside.routed r.past c.args.f.now r.left) left c.in-Err.stop c.in-Err.ensures.said)
+    tables-not-read (tables_of c.args.number c.args.count c.args.past.now.routed r.past c.args.f.now r.left) c.read_tables.new.reader.left c.in-Err.stop c.in-Err.ensures.said

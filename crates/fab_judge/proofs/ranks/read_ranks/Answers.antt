@@ -5,7 +5,7 @@ use Rattle.fab_judge.specs.Reading.{HasRead, Gives}
 use Rattle.map_defs.specs.declared.rank.RankEntry.{RankEntry}
 use Rattle.fab_judge.specs.declared.stop.Unread.{Unread}
 use Rattle.fab_judge.specs.Blocks.{next_rank}
-use Rattle.fab_judge.specs.Past.{map_in}
+use Rattle.fab_judge.specs.Shown.{map_in}
 use Rattle.fab_judge.proofs.Steps.{read_none, read_more, read_fewer, read_shorter}
 use Rattle.fab_judge.proofs.Blocks.{after, after-none}
 use Rattle.fab_judge.proofs.RankLines.{ranks-end, ranks-more, ranks-stopped}

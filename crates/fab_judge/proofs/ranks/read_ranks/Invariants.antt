@@ -1,7 +1,7 @@
 use Rattle.std.proofs.Common.{◌≡◌, None, length}
 use Rattle.judge_defs.specs.Form.{rank_lines}
 use Rattle.fab_judge.specs.Reading.{HasRead}
-use Rattle.fab_judge.specs.Past.{map_in}
+use Rattle.fab_judge.specs.Shown.{map_in}
 use Rattle.fab_judge.proofs.Blocks.{after}
 use Rattle.fab_judge.proofs.ranks.read_ranks.Given as goal
 

@@ -4,5 +4,5 @@ use Rattle.answer_checks.proofs.ledgers.Ledgers.receive.Goals as goal
 pub receive_next-requires : goal.receive_next-requires
 receive_next-requires c = c.gives_length.ensures.0 c.if-gives_length.true
 
-pub returns-else-gives_length : goal.returns-else-gives_length
-returns-else-gives_length c = λ before cmd h m. true≢false (sym (c.gives_length.ensures.1 m.lengths) ∙ c.if-gives_length.false)
+pub returns-else-gives_length-clause-judges : goal.returns-else-gives_length-clause-judges
+returns-else-gives_length-clause-judges c = λ before cmd h m. true≢false (sym (c.gives_length.ensures.1 m.lengths) ∙ c.if-gives_length.false)

@@ -2,7 +2,7 @@ use Rattle.std.proofs.Common.{◌≡◌, ◌↔◌, ℕ, List, [], true, false, 
 use Rattle.std.proofs.lemmas.Result.{on_err_weaker}
 use Rattle.port_ledgers.specs.Told.{Told, Received}
 use Rattle.port_ledgers.specs.Held.{IsToldTo, AreHeld, AreTokensRight}
-use Rattle.port_ledgers.proofs.Holding.{said_right, told_held, refused_held, kept_held, if_ok-weaker}
+use Rattle.port_ledgers.proofs.Holding.{said_right, told_held, refused_held, kept_held, if_ok-weaker, may_right}
 use Rattle.port_ledgers.proofs.tokens.TokenLedger.receive.Goals as goal
 
 pub returns-clause-right : goal.returns-clause-right
@@ -34,3 +34,8 @@ returns-clause-err c =
     let now = c.args.self.now in
     let new = c.recv_back.new.self in
     on_err_weaker c.recv_back.result (λ put past held. kept_held past now new (Received c.args.lane 0 [] c.args.token) (put 0 []) held) c.recv_back.ensures.err
+
+pub returns-clause-memory : goal.returns-clause-memory
+returns-clause-memory c =
+    let now = c.args.self.now in
+    on_err_weaker c.recv_back.result (λ may past sport body held. may_right past now (Received c.args.lane sport body c.args.token) (may sport body) held) c.recv_back.ensures.memory

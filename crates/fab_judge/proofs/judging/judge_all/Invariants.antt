@@ -1,6 +1,6 @@
 use Rattle.std.proofs.Common.{◌≡◌, drop}
 use Rattle.fab_judge.proofs.Judged.{Leads}
-use Rattle.fab_judge.proofs.judging.judge_answers.Given as goal
+use Rattle.fab_judge.proofs.judging.judge_all.Given as goal
 
 abbrev pub invariant-answers : goal.invariant-answers
 invariant-answers l = record {
