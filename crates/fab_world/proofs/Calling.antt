@@ -1,9 +1,11 @@
 -- What a client's call is as an event of the world.
-use Rattle.std.proofs.Common.{◌≡◌, true, refl}
+use Rattle.std.proofs.Common.{◌≡◌, ◌∙◌, ℕ, true, refl, sym, ap}
 use Rattle.world_defs.specs.declared.event.Event.{Event}
 use Rattle.world_defs.specs.declared.event.Event.TheVariants.{Ask, Part, Inject, Advance, Lose, Repeat, Hold, Flip, Replay, Reset, Expire, GiveUp, Begin, Close, Provide, Send, Poll, Revoke, Pull, Plug}
+use Rattle.world_defs.specs.declared.effect.Effect.{Effect}
 use Rattle.world_defs.specs.declared.effect.Effect.TheVariants.{Said as Says}
 use Rattle.world_defs.specs.declared.effect.Said.{Said}
+use Rattle.world_defs.specs.Client.{Called}
 use Rattle.world_defs.specs.World.{WorldState, host_count, node_at, client_at}
 use Rattle.world_defs.specs.Step.{of_call, step}
 use Rattle.client_host.specs.Calls.{IsClientCall, IsCallGiven, host_of_call, port_of_call, call_of, call_takes_memory, IsPolledFrom}
@@ -39,3 +41,15 @@ call-at w (Close h port) call given = record { there = given.0; given = given.1;
 call-at w (Provide h port size prio) call given = record { there = given.0; given = given.1; is = refl; polled = λ said p. p; memory = λ t. t }
 call-at w (Send h port dest dport prio len seed) call given = record { there = given.0; given = (given.1, given.2, given.3, given.4); is = refl; polled = λ said p. p; memory = λ t. t }
 call-at w (Poll h port) call given = record { there = given.0; given = given.1; is = refl; polled = λ said p. p; memory = λ t. t }
+
+-- so it is answered, and nothing else comes of it
+pub says : (w v : WorldState) (e : Event) (x : Effect) → IsClientCall e → IsGiven w e → step w e ≡ (x, v) → (said : Said) × (x ≡ Says said)
+says w v e x call given is =
+    let h : ℕ = host_of_call e in
+    let q : Called = call_of e (node_at w h) (client_at w h (port_of_call e)) in
+    (q.said, ap (λ (p : Effect × WorldState). p.0) (sym is ∙ (call-at w e call given).is))
+
+pub says-no_other : (w v : WorldState) (e : Event) (x : Effect) → IsClientCall e → IsGiven w e → step w e ≡ (x, v) → ((said : Said) → x ≡ Says said → ⊥) → ⊥
+says-no_other w v e x call given is other =
+    let s = says w v e x call given is in
+    other s.0 s.1

@@ -18,6 +18,7 @@
 //! | module | has |
 //! |---|---|
 //! | `changing` | each event, and the fabric that follows it |
+//! | `clients` | the calls of clients: their events, and what they are answered |
 //! | `eight_bits` | the pattern of a flip is a byte |
 //! | `host_marks` | which hosts are looked at |
 //! | `hosts` | whether a host has nothing to do |
@@ -27,6 +28,7 @@
 #![tactic(auto)]
 
 mod changing;
+mod clients;
 mod eight_bits;
 mod host_marks;
 mod hosts;
@@ -36,6 +38,7 @@ mod world;
 
 pub use adopted_routes::AdoptRefusal;
 pub use client_host::{Message, Said, TokenPlace};
+pub use clients::PortAt;
 pub use faulty_links::{Hop, Run};
 pub use port_graph::{Fabric, RouteSet};
 pub use world::World;

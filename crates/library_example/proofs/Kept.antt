@@ -1,6 +1,6 @@
 -- That a map which says complete is one to compute routes of, and that its routes may be installed.
-use Rattle.std.proofs.Common.{◌≡◌, ◌<◌, ◌∙◌, ℕ, ℤ, true, true≢false, List, [], ◌∷◌, length, Option, None, Result, Ok, Err, sym, ap, subst, arith}
-use Rattle.std.specs.Prelude.{is_none, is_ok, OnOk}
+use Rattle.std.proofs.Common.{◌≡◌, ◌<◌, ◌∙◌, ℕ, ℤ, true, List, [], ◌∷◌, length, nat_eq, Result, Ok, IfOk, sym, ap, subst, arith}
+use Rattle.std.specs.List.{list_any}
 use Rattle.std.proofs.lemmas.Bool.Decides.{nat_tests}
 use Rattle.net_defs.specs.declared.place.Answer.{Answer}
 use Rattle.net_defs.specs.declared.route.Route.{Route}
@@ -16,23 +16,20 @@ use Rattle.cable_history.specs.History.{fabric_at}
 use Rattle.cable_history.proofs.Now.{last_is_now}
 use Rattle.link_defs.specs.Links.{is_idle}
 use Rattle.link_defs.proofs.Shapes.{empty-idle}
-use Rattle.world_defs.specs.World.{WorldState, fabric_of, host_count, new_world, standing_of, adopted_by, may_adopt}
-use Rattle.port_graph.specs.Routes.{HandsBack}
-use Rattle.adopted_routes.specs.Adopting.{IsAdoptable, adopt_refusal}
-use Rattle.adopted_routes.specs.declared.routes.AdoptRefusal.{AdoptRefusal}
-use Rattle.adopted_routes.proofs.Refusals.{refused_exactly}
+use Rattle.world_defs.specs.World.{WorldState, fabric_of, host_count, new_world}
+use Rattle.route_install.specs.Installing.{AreHosts}
+use Rattle.adopted_routes.specs.Adopting.{IsAdoptable, is_among}
 use Rattle.fab_world.specs.Events.{IsHostOf}
 use Rattle.fab_world.specs.Held.{IsMoment}
-use Rattle.table_installing.specs.Installing.{CanInstall}
-use Rattle.table_installing.proofs.Adoptions.{adopted-installable}
 use Rattle.run_defs.specs.Session.{LastRoutes}
 use Rattle.map_canon.specs.Printing.{AreOfFabric}
 use Rattle.map_making.specs.declared.making.MadeMap.{MadeMap}
 use Rattle.map_making.specs.Made.{IsMade}
+use Rattle.map_making.proofs.Words.{complete-within}
+use Rattle.run_defs.specs.declared.line.MapWords.TheVariants.{Complete}
 use Rattle.mapper.specs.Asks.{AreAsked}
 use Rattle.journal_defs.specs.declared.entry.Entry.{Entry}
 use Rattle.world_asking.specs.Prober.{WorldAsking, IsAsked}
-use Rattle.act_defs.specs.Acts.{IsReached}
 use Rattle.route_making.specs.Kept.{IsKeptMap, AreKeptRoutes}
 use Rattle.route_making.specs.Listed.{map_hosts_below}
 use Rattle.route_making.proofs.Adoptable.{kept-adoptable, kept-mapper, kept-named, kept-rise}
@@ -48,16 +45,17 @@ has-host n host low = grind (arith, nat_tests)
 
 -- a map that was made, and is its mapper's part of the fabric
 pub kept-map : (S : Type 0) (asked : S → List ℤ → Answer → S → Type 0) (n : Network) (host depth drowned : ℕ) (before after : S) (m : MadeMap) → IsFabric n → host < length n.hosts
-    → IsMade S asked host depth before drowned m after → IsMap m.map → IsMapOfPart n host m.map → AreOfFabric n m.map → IsKeptMap n host m.map
-kept-map S asked n host depth drowned before after m fabric low made rules right hosts =
+    → IsMade S asked host depth before drowned m after → m.words ≡ Complete → IsMap m.map → IsMapOfPart n host m.map → AreOfFabric n m.map → IsKeptMap n host m.map
+kept-map S asked n host depth drowned before after m fabric low made says rules right hosts =
+    let k = made.within (complete-within host made.journal drowned m.words made.called says) in
     let small = (right_map_is_no_larger n host m.map fabric (has-host n host low) right).switches in
     let few = fabric.few_switches in
     record {
       rules = rules;
       right = right;
       hosts = hosts;
-      connected = subst IsConnected (sym made.marked)
-          (λ v l. (let r = quotient_is_connected host depth made.journal made.unmarked made.grown made.quotient v l in record { cables = r.cables; path = r.path }));
+      connected = subst IsConnected (sym k.marked)
+          (λ v l. (let r = quotient_is_connected host depth made.journal k.unmarked made.grown k.quotient v l in record { cables = r.cables; path = r.path }));
       few = omega (arith, small, few);
     }
 
@@ -92,30 +90,29 @@ adopter-there w mapper m routes now kept are =
     let low : mapper < length (fabric_of w).hosts = kept-mapper (fabric_of w) (last w mapper m routes) (kept-routes w mapper m routes now kept are) in
     omega (arith, hosts, low)
 
--- and once they are, they can be installed on the hosts of the map
-pub installable : (n : Network) (w v : WorldState) (mapper : ℕ) (m : NetMap) (routes : List Route) → IsMoment w → IsReached n w → may_adopt w routes ≡ true → IsKeptMap (fabric_of w) mapper m → AreRoutesOf m (order_of m) routes → is_idle w.links ≡ true → v ≡ adopted_by w mapper routes
-    → host_count v ≡ host_count w → CanInstall v (hosts_in v m) 1
-installable n w v mapper m routes now reached may kept are idle same hosts =
+-- and installed on the hosts of the map
+pub installable : (w : WorldState) (mapper : ℕ) (m : NetMap) (routes : List Route) → IsMoment w → IsKeptMap (fabric_of w) mapper m → AreRoutesOf m (order_of m) routes
+    → AreHosts (hosts_in w m) × ((h : ℕ) → list_any (nat_eq h) (hosts_in w m) ≡ is_among mapper routes h)
+installable w mapper m routes now kept are =
     let l : LastRoutes = last w mapper m routes in
     let k : AreKeptRoutes (fabric_of w) l = kept-routes w mapper m routes now kept are in
-    subst (λ (count : ℕ). CanInstall v (map_hosts_below count m) 1) (sym hosts)
-    (subst (λ (u : WorldState). CanInstall u (hosts_in w m) 1) (sym same)
-    (adopted-installable n w mapper routes (hosts_in w m) 1 reached may idle (kept-rise (fabric_of w) l k) (kept-named (fabric_of w) l k) (omega arith) (omega arith)))
-
--- what holds of a result that is no error holds where the error became another
-pub accepted : {T E D : Type 0} → (r : Result T E) (q : Result T D) (x : T) (P : Type 0) → is_ok q ≡ is_ok r → q ≡ Ok x → OnOk r P → P
-accepted (Ok y) q x P same is p = p
-accepted (Err e) q x P same is p = absurd (true≢false (sym (ap is_ok is) ∙ same))
-
--- and a call that hands back what it refuses had no refusal then
-pub unrefused : {T V E D : Type 0} → (r : Result T (V × E)) (q : Result T D) (x : T) (refusal : Option E) (e : E) (v : V) → is_ok q ≡ is_ok r → q ≡ Ok x → HandsBack refusal e v r → refusal ≡ None
-unrefused (Ok y) q x refusal e v same is p = p
-unrefused (Err a) q x refusal e v same is p = absurd (true≢false (sym (ap is_ok is) ∙ same))
-
--- routes that a world doesn't refuse may be adopted
-pub may-be : (w : WorldState) (routes : List Route) → adopt_refusal (standing_of w) routes w.adopted ≡ None → may_adopt w routes ≡ true
-may-be w routes e = sym (refused_exactly (standing_of w) routes w.adopted) ∙ ap (λ (o : Option AdoptRefusal). is_none o) e
+    (kept-rise (fabric_of w) l k, kept-named (fabric_of w) l k)
 
 -- the fabric after the changes so far is the one that stands
-pub stands-now : (w : WorldState) (k : ℕ) → IsMoment w → k ≡ w.links.cables.changes → fabric_at w.links.cables k ≡ fabric_of w
+stands-now : (w : WorldState) (k : ℕ) → IsMoment w → k ≡ w.links.cables.changes → fabric_at w.links.cables k ≡ fabric_of w
 stands-now w k now same = last_is_now w.links.cables k now.history (omega (arith, same))
+
+-- so a map of the fabric of a new world is one of the fabric that stands, where no cable changed
+pub unchanged-kept : {E : Type 0} (w : WorldState) (mapper : ℕ) (r : Result NetMap E) (m : NetMap) → IsMoment w → r ≡ Ok m → IfOk r (IsKeptMap (fabric_at w.links.cables 0) mapper) → w.links.cables.changes ≡ 0 → IsKeptMap (fabric_of w) mapper m
+unchanged-kept w mapper r m now is kept same =
+    subst (λ (n : Network). IsKeptMap n mapper m) (stands-now w 0 now (sym same)) (subst (λ x. IfOk x (IsKeptMap (fabric_at w.links.cables 0) mapper)) is kept)
+
+-- and a map of a prober of host 0, which was made over a new world, is one of that
+pub kept-new : {E : Type 0} (r : Result NetMap E) (v w : WorldState) (made host : ℕ) → w ≡ v → made ≡ 0 → host ≡ 0 → IfOk r (IsKeptMap (fabric_at v.links.cables made) host) → IfOk r (IsKeptMap (fabric_at w.links.cables 0) 0)
+kept-new r v w made host same none first kept =
+    subst (λ (u : WorldState). IfOk r (IsKeptMap (fabric_at u.links.cables 0) 0)) (sym same)
+    (subst (λ k. IfOk r (IsKeptMap (fabric_at v.links.cables 0) k)) first (subst (λ k. IfOk r (IsKeptMap (fabric_at v.links.cables k) host)) none kept))
+
+-- no cable changed in a new world
+pub new-unchanged : (w : WorldState) (n : Network) → w ≡ new_world n → w.links.cables.changes ≡ 0
+new-unchanged w n new = ap (λ v. v.links.cables.changes) new

@@ -123,9 +123,8 @@ made-over s depth m t packets new none few k p =
         asked = ap (λ made. (log.asks made s.host s.tries (map (λ x. x.walk) k.journal) s.world).value) (sym new) ∙ r.asked;
         led = r.led ∙ ap (λ made. (log.asks made s.host s.tries (map (λ x. x.walk) k.journal) s.world).world) new;
         grown = k.grown;
-        unmarked = k.unmarked;
-        quotient = k.quotient;
-        marked = k.marked;
+        within = k.within;
+        beyond = k.beyond;
         called = subst (λ d. IsCalled s.host k.journal d m.words) e k.called;
       };
       asks = asks;

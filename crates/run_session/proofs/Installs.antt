@@ -1,28 +1,19 @@
 -- That an installation of the last routes is told, and so obeyed.
-use Rattle.std.proofs.Common.{◌≡◌, ◌≢◌, ℕ, ◌∷◌, [], List, length, map, Bool, true, false, true≢false, not, ◌&&◌, nat_eq, Option, Some, None, Result, Ok, Err, refl, sym, ◌∙◌, ap, subst, arith, if◌then◌else◌}
-use Rattle.std.specs.Prelude.{IfSome, IfOk, OnErr, IsSome, is_some}
-use Rattle.link_defs.specs.Links.{LinkState, is_idle}
-use Rattle.link_defs.specs.Fault.{accept}
+use Rattle.std.proofs.Common.{◌≡◌, ◌≢◌, ◌⊎◌, ℕ, ◌∷◌, [], List, length, map, Bool, true, false, true≢false, not, ◌&&◌, nat_eq, Option, Some, None, inl, inr, refl, sym, ◌∙◌, ap, subst, arith, if◌then◌else◌}
+use Rattle.link_defs.specs.Links.{is_idle}
 use Rattle.cable_history.specs.Later.{OnlyPulled}
-use Rattle.net_defs.specs.Network.{Network}
 use Rattle.std.proofs.lemmas.Bool.Decides.{Decides-eqb, nat_tests}
 use Rattle.std.proofs.lemmas.Option.{same_Some}
-use Rattle.cable_history.specs.History.{fabric_now}
-use Rattle.world_defs.specs.World.{WorldState, fabric_of, keeps_epoch, may_adopt, adopted_by}
-use Rattle.world_defs.specs.Table.{Adoption}
+use Rattle.world_defs.specs.World.{WorldState, fabric_of, may_adopt, adopted_by}
 use Rattle.world_defs.specs.EightBits.{IsByteEvent}
-use Rattle.world_defs.specs.Logs as log
 use Rattle.world_defs.specs.Row.{IsPartWay}
 use Rattle.world_defs.proofs.LogRows.{install-row, byte_asks}
-use Rattle.act_defs.specs.Acts.{acted_all, IsReached}
-use Rattle.install_laws.proofs.Epochs.{adopted-unrevoked}
-use Rattle.table_installing.specs.Installing.{IsUnrevoked, IsUnchanged}
-use Rattle.table_installing.proofs.Adoptions.{adopted-unchanged, accepted-idle}
+use Rattle.act_defs.specs.Acts.{acted_all}
 use Rattle.run_defs.specs.declared.command.Command.TheVariants.{Install}
 use Rattle.run_defs.specs.declared.line.Line.TheVariants.{Installed, InstallRefused}
 use Rattle.run_defs.specs.declared.line.InstallCause.{InstallCause}
 use Rattle.run_defs.specs.declared.line.InstallCause.TheVariants.{NoRoutes, Busy, Changed}
-use Rattle.run_defs.specs.Output.{Piece, OneLine, lines}
+use Rattle.run_defs.specs.Output.{OneLine, lines}
 use Rattle.run_defs.specs.Deed.{Deed, says, session_after}
 use Rattle.run_defs.specs.Outcome.{set_of, adopt_cause, installation, may_install, refusal_cause, install, install_now, table_line}
 use Rattle.run_defs.proofs.Doing.{acted-installation}
@@ -31,11 +22,13 @@ use Rattle.run_defs.specs.Run.{IsDeed}
 use Rattle.run_defs.specs.Session.{SessionState, LastMap, LastRoutes}
 use Rattle.fab_report.specs.Printed.{PrintedState, printed_of}
 use Rattle.promise_laws.specs.CutShort.{IsPartActed}
-use Rattle.promise_laws.proofs.CutShort.{part-installed, way-whole}
+use Rattle.promise_laws.proofs.CutShort.{part-none, part-installed, way-whole}
 use Rattle.world_commands.specs.Done.{session_of}
+use Rattle.fab_world.specs.Held.{IsMoment}
+use Rattle.run_session.specs.Kept.{AreKeptRoutes, WereKeptRoutes, GoesOn}
 use Rattle.run_session.specs.Obeyed.{IsObeyed}
-use Rattle.run_session.specs.Told.{IsOfLast, AreInstalledTold, IsInstallTold}
-use Rattle.run_session.proofs.Going.{goes_pulled, printed-on}
+use Rattle.run_session.specs.Told.{IsInstallTold}
+use Rattle.run_session.proofs.Going.{goes-as, goes-on, goes-adopted, goes-way, goes_pulled, routes-now, printed-on}
 
 -- an installation that is refused
 refused : (w : WorldState) (last : Option LastRoutes) (tries : ℕ) (cause : InstallCause) (p : PrintedState) → install w tries last ≡ says (InstallRefused cause ∷ []) → p ≡ printed_of (fabric_of w) (OneLine (InstallRefused cause) ∷ []) → IsInstallTold w last tries w p
@@ -96,75 +89,59 @@ cause_changed w l other =
     let t : nat_eq l.began w.links.cables.changes ≡ false = grind (arith, nat_tests) in
     sym (ap (cause_by w l) t)
 
--- an adoption leaves the fabric
-adopted-now : (s : LinkState) (b : Bool) → fabric_now (if b then s else accept s).cables ≡ fabric_now s.cables
-adopted-now s true = refl
-adopted-now s false = refl
+-- so they are kept routes of it, also where they are a copy
+pub kept-copy : (w : WorldState) (k l : LastRoutes) → IsMoment w → k ≡ l → may_install w l ≡ true → WereKeptRoutes w.links.cables l → AreKeptRoutes (fabric_of w) k
+kept-copy w k l now same may were = subst (AreKeptRoutes (fabric_of w)) (sym same) (routes-now w l now (unchanged-may w l may).0 were)
 
-pub installed_told : (w mid after : WorldState) (l : LastRoutes) (tries : ℕ) (p : PrintedState) → is_idle w.links ≡ true → may_install w l ≡ true → mid ≡ adopted_by w l.mapper l.routes → AreInstalledTold (set_of w l) mid l tries after p → IsInstallTold w (Some l) tries after p
-installed_told w mid after l tries p idle may is told = record {
-  printed = told.printed
-      ∙ ap (λ (v : WorldState). printed_of (fabric_of v) out) is
-      ∙ ap (λ n. printed_of n out) (adopted-now w.links (keeps_epoch w l.routes))
+-- how far the adoption and the installation of the last routes went, where they ended early
+abbrev pub IsPartInstalled : WorldState → LastRoutes → ℕ → WorldState → Type 0
+IsPartInstalled w l tries v = (v ≡ w) ⊎ IsPartWay (adopted_by w l.mapper l.routes) (installation w l tries).events v
+
+-- such a world goes on from the one before, and so does one that cables were pulled in after the adoption
+pub goes-pulled_after : (w v : WorldState) (l : LastRoutes) → OnlyPulled (adopted_by w l.mapper l.routes).links.cables v.links.cables → GoesOn w v
+goes-pulled_after w v l pulled =
+    let mid : WorldState = adopted_by w l.mapper l.routes in
+    goes-on w mid v (goes-adopted w mid l.mapper l.routes refl) (goes_pulled mid v pulled)
+
+pub goes-part : (w v : WorldState) (l : LastRoutes) (tries : ℕ) → IsPartInstalled w l tries v → GoesOn w v
+goes-part w v l tries (inl same) = goes-as w v same
+goes-part w v l tries (inr way) =
+    let mid : WorldState = adopted_by w l.mapper l.routes in
+    goes-on w mid v (goes-adopted w mid l.mapper l.routes refl) (goes-way mid v (installation w l tries).events way)
+
+-- an installation that was done went all the way
+pub whole-part : (w v : WorldState) (l : LastRoutes) (tries : ℕ) → v ≡ (installation w l tries).world → IsPartInstalled w l tries v
+whole-part w v l tries led =
+    let mid : WorldState = adopted_by w l.mapper l.routes in
+    inr (way-whole mid v (installation w l tries).events (led ∙ (install-row {Q = IsByteEvent} byte_asks (λ dst part. tt) (set_of w l) l.hosts tries mid).there))
+
+-- the command went as far
+pub cut-part : (w v : WorldState) (k l : LastRoutes) (tries : ℕ) → k ≡ l → is_idle w.links ≡ true → may_install w l ≡ true → IsPartInstalled w k tries v → IsPartActed w (install w tries (Some l)).acts v
+cut-part w v k l tries same idle may (inl still) = part-none w v (install w tries (Some l)).acts still
+cut-part w v k l tries same idle may (inr way) =
+    subst (λ (x : LastRoutes). IsPartActed w (install w tries (Some x)).acts v) same
+    (part-installed w (adopted_by w k.mapper k.routes) v k tries idle (ap (λ (x : LastRoutes). not (may_install w x)) same ∙ ap not may) refl way)
+
+-- routes that were adopted and installed are told
+installed : (w v : WorldState) (l : LastRoutes) (tries acked : ℕ) (p : PrintedState) → is_idle w.links ≡ true → may_install w l ≡ true → acked ≡ (installation w l tries).value → v ≡ (installation w l tries).world
+    → OnlyPulled (adopted_by w l.mapper l.routes).links.cables v.links.cables → p ≡ printed_of (fabric_of v) (lines (Installed acked (length l.hosts) ∷ map (table_line v) l.hosts)) → IsInstallTold w (Some l) tries v p
+installed w v l tries acked p idle may counted led pulled e = record {
+  printed = e
+      ∙ printed-on w v (lines (Installed acked (length l.hosts) ∷ map (table_line v) l.hosts)) (goes-pulled_after w v l pulled)
       ∙ (λ i. printed_of (fabric_of w) (lines (Installed (counted i) (length l.hosts) ∷ map (table_line (led i)) l.hosts)))
       ∙ sym (ap (λ (d : Deed). printed_of (fabric_of w) d.output) all);
   left = led ∙ sym (acted-installation w l tries) ∙ sym (ap (λ (d : Deed). acted_all w d.acts) all);
 }
   where
-    out : List Piece
-    out = lines (Installed told.acked (length l.hosts) ∷ map (table_line after) l.hosts)
-
-    counted : told.acked ≡ (installation w l tries).value
-    counted = told.counted ∙ ap (λ v. (log.install (set_of w l) l.hosts tries v).value) is
-
-    led : after ≡ (installation w l tries).world
-    led = told.led ∙ ap (λ v. (log.install (set_of w l) l.hosts tries v).world) is
-
     all : install w tries (Some l) ≡ install_now w l tries
     all = ap (λ b. choice w l tries b (may_install w l) (refusal_cause w l)) idle ∙ ap (λ b. choice w l tries true b (refusal_cause w l)) may
 
--- the set that was adopted
-now-adopted : (w mid : WorldState) (l : LastRoutes) → mid ≡ adopted_by w l.mapper l.routes → mid.adopted ≡ Some (set_of w l)
-now-adopted w mid l is = ap (λ v. v.adopted) is
-
--- so it is of what ran out of memory or was made, where the last routes were adopted
-pub adopted-told : {E : Type 0} → (w mid after : WorldState) (l : LastRoutes) (tries : ℕ) (r : Result PrintedState E) → is_idle w.links ≡ true → may_install w l ≡ true → mid ≡ adopted_by w l.mapper l.routes
-    → ((a : Adoption) → mid.adopted ≡ Some a → IfOk r (AreInstalledTold a mid l tries after)) → IfOk r (IsInstallTold w (Some l) tries after)
-adopted-told w mid after l tries (Ok p) idle may there made = installed_told w mid after l tries p idle may there (made (set_of w l) (now-adopted w mid l there))
-adopted-told w mid after l tries (Err e) idle may there made = tt
-
--- nor does an adoption put a packet into a channel
-pub adopted-idle : (w mid : WorldState) (l : LastRoutes) → is_idle w.links ≡ true → mid ≡ adopted_by w l.mapper l.routes → is_idle mid.links ≡ true
-adopted-idle w mid l idle there = ap (λ v. is_idle v.links) there ∙ accepted-idle w.links (keeps_epoch w l.routes) ∙ idle
-
--- routes that were just adopted are the last routes, their epoch is given up by no host, and no cable changed since
-pub adopted-are_last : (n : Network) (w mid : WorldState) (l : LastRoutes) → IsReached n w → may_adopt w l.routes ≡ true → mid ≡ adopted_by w l.mapper l.routes → IsSome mid.adopted × ((a : Adoption) → mid.adopted ≡ Some a → IsOfLast mid l a)
-adopted-are_last n w mid l reached may there =
-    let of_set : IsOfLast mid l (set_of w l) = record {
-      mapper = refl;
-      routes = refl;
-      unrevoked = subst (λ v. IsUnrevoked v (set_of w l)) (sym there) (adopted-unrevoked n w l.mapper l.routes reached may);
-      unchanged = subst (λ v. IsUnchanged v (set_of w l)) (sym there) (adopted-unchanged w l.mapper l.routes);
-    } in
-    (ap is_some (now-adopted w mid l there), λ a e. subst (IsOfLast mid l) (same_Some (set_of w l) a (sym (now-adopted w mid l there) ∙ e)) of_set)
-
--- what holds of the adopted routes and of these hosts holds of the last routes
-of_last : (w : WorldState) (l : LastRoutes) (a : Adoption) (P : Adoption → List ℕ → Type 0) (hosts : List ℕ) → w.adopted ≡ Some a → IfSome w.adopted (λ a. P a hosts) → hosts ≡ l.hosts → P a l.hosts
-of_last w l a P hosts adopted is same = subst (P a) same (subst (λ (o : Option Adoption). IfSome o (λ a. P a hosts)) adopted is)
-
--- an installation that was counted is reported
-pub counted-told : (w after : WorldState) (l : LastRoutes) (a : Adoption) (tries acked total : ℕ) (hosts : List ℕ) (p : PrintedState) → w.adopted ≡ Some a → IfSome w.adopted (λ a. acked ≡ (log.install a hosts tries w).value)
-    → IfSome w.adopted (λ a. after ≡ (log.install a hosts tries w).world) → total ≡ length hosts → hosts ≡ l.hosts → OnlyPulled w.links.cables after.links.cables
-    → p ≡ printed_of (fabric_of after) (lines (Installed acked total ∷ map (table_line after) hosts)) → AreInstalledTold a w l tries after p
-counted-told w after l a tries acked total hosts p adopted counted led all same pulled e = record {
-  acked = acked;
-  counted = of_last w l a (λ a hs. acked ≡ (log.install a hs tries w).value) hosts adopted counted same;
-  led = of_last w l a (λ a hs. after ≡ (log.install a hs tries w).world) hosts adopted led same;
-  printed = e
-      ∙ printed-on w after (lines (Installed acked total ∷ map (table_line after) hosts)) (goes_pulled w after pulled)
-      ∙ ap (λ (k : ℕ). printed_of (fabric_of w) (lines (Installed acked k ∷ map (table_line after) hosts))) all
-      ∙ ap (λ (hs : List ℕ). printed_of (fabric_of w) (lines (Installed acked (length hs) ∷ map (table_line after) hs))) same;
-}
+pub installed-told : (w v : WorldState) (k l : LastRoutes) (tries acked total : ℕ) (hosts : List ℕ) (p : PrintedState) → k ≡ l → is_idle w.links ≡ true → may_install w l ≡ true → acked ≡ (installation w k tries).value → v ≡ (installation w k tries).world
+    → OnlyPulled (adopted_by w k.mapper k.routes).links.cables v.links.cables → total ≡ length k.hosts → hosts ≡ k.hosts → p ≡ printed_of (fabric_of v) (lines (Installed acked total ∷ map (table_line v) hosts)) → IsInstallTold w (Some l) tries v p
+installed-told w v k l tries acked total hosts p same idle may counted led pulled all one e =
+    subst (λ (x : LastRoutes). IsInstallTold w (Some x) tries v p) same
+    (installed w v k tries acked p idle (ap (λ (x : LastRoutes). may_install w x) same ∙ may) counted led pulled
+    (e ∙ (λ i. printed_of (fabric_of v) (lines (Installed acked (all i) ∷ map (table_line v) (one i))))))
 
 -- an installation leaves all but the world
 install-leaves : (s : SessionState) (tries : ℕ) (o : Option LastRoutes) → session_after s (install s.world tries o) ≡ record s { world = acted_all s.world (install s.world tries o).acts }
@@ -179,20 +156,3 @@ installed_so w v made found tries p told =
       does = record { deed = d; is = IsDeed.determined refl; prints = refl; leaves = ap (λ u. session_of u made found) told.left ∙ sym (install-leaves (session_of w made found) tries found) };
       printed = told.printed;
     }
-
--- an installation of adopted routes that ran out of memory, or was made and its text ran out of it, is part of the way along its events
-pub installed-part : (w after : WorldState) (l : LastRoutes) (a : Adoption) (tries : ℕ) (hosts : List ℕ) → w.adopted ≡ Some a → IfSome w.adopted (λ a. IsPartWay w (log.install a hosts tries w).events after) → hosts ≡ l.hosts
-    → IsPartWay w (log.install a l.hosts tries w).events after
-installed-part w after l a tries hosts adopted way same = of_last w l a (λ a hs. IsPartWay w (log.install a hs tries w).events after) hosts adopted way same
-
-pub installed-whole : (w after : WorldState) (l : LastRoutes) (a : Adoption) (tries : ℕ) (hosts : List ℕ) → w.adopted ≡ Some a → IfSome w.adopted (λ a. after ≡ (log.install a hosts tries w).world) → hosts ≡ l.hosts
-    → IsPartWay w (log.install a l.hosts tries w).events after
-installed-whole w after l a tries hosts adopted led same =
-    let there : after ≡ (log.install a l.hosts tries w).world = of_last w l a (λ a hs. after ≡ (log.install a hs tries w).world) hosts adopted led same in
-    way-whole w after (log.install a l.hosts tries w).events (there ∙ (install-row {Q = IsByteEvent} byte_asks (λ dst part. tt) a l.hosts tries w).there)
-
--- an installation of the last routes that ran out of memory
-pub cut-by : {A E : Type 0} (r : Result A E) (w mid v : WorldState) (l : LastRoutes) (tries : ℕ) → is_idle w.links ≡ true → may_install w l ≡ true → mid ≡ adopted_by w l.mapper l.routes
-    → ((a : Adoption) → mid.adopted ≡ Some a → OnErr r (IsPartWay mid (log.install a l.hosts tries mid).events v)) → OnErr r (IsPartActed w (install w tries (Some l)).acts v)
-cut-by (Ok p) w mid v l tries idle may there way = tt
-cut-by (Err e) w mid v l tries idle may there way = part-installed w mid v l tries idle (ap not may) there (way (set_of w l) (now-adopted w mid l there))

@@ -1,24 +1,20 @@
 -- What is printed of a map that was made, of routes that were computed, and of an installation.
-use Rattle.std.specs.Prelude.{◌≡◌, ℕ, ◌-◌, List, ◌∷◌, map, length, Option, Some}
+use Rattle.std.specs.Prelude.{◌≡◌, ℕ, ◌-◌, List, length, Option, Some}
 use Rattle.net_defs.specs.declared.route.Route.{Route}
 use Rattle.journal_defs.specs.declared.entry.Entry.{Entry}
 use Rattle.map_defs.specs.Orientation.{order_of}
 use Rattle.map_defs.specs.Routing.{AreRoutesOf}
-use Rattle.world_defs.specs.Table.{Adoption}
 use Rattle.world_defs.specs.World.{WorldState, fabric_of}
-use Rattle.world_defs.specs.Logs as log
 use Rattle.act_defs.specs.Acts.{acted_all}
 use Rattle.run_defs.specs.declared.command.Command.{Command}
 use Rattle.run_defs.specs.declared.command.Command.TheVariants.{Map as MapCommand}
-use Rattle.run_defs.specs.declared.line.Line.TheVariants.{Installed}
 use Rattle.run_defs.specs.Mapped.{IsMapped}
 use Rattle.run_defs.specs.Output.{lines}
 use Rattle.run_defs.specs.Run.{routes_lines, hosts_by_address}
-use Rattle.run_defs.specs.Outcome.{install, table_line}
+use Rattle.run_defs.specs.Outcome.{install}
 use Rattle.run_defs.specs.Session.{LastMap, LastRoutes}
 use Rattle.fab_report.specs.Printed.{PrintedState, printed_of}
 use Rattle.map_making.specs.declared.making.MadeMap.{MadeMap}
-use Rattle.table_installing.specs.Installing.{IsUnrevoked, IsUnchanged}
 use Rattle.run_session.specs.declared.mapping.MapOrder.{MapOrder}
 
 -- the command that makes a map
@@ -44,23 +40,6 @@ pub record AreRoutesTold (w : WorldState) (l : LastMap) (found : Option LastRout
     began = l.began;
   })
   pub printed : told ≡ printed_of (fabric_of w) (lines (routes_lines l.made routes))
-
--- An adopted set is the last routes, no host has given up its epoch, and no cable came or went since its adoption.
-pub record IsOfLast (w : WorldState) (l : LastRoutes) (a : Adoption) : Type 0 where
-  pub mapper : a.mapper ≡ l.mapper
-  pub routes : a.routes ≡ l.routes
-  pub unrevoked : IsUnrevoked w a
-  pub unchanged : IsUnchanged w a
-
--- The last routes, adopted as this set, were installed over a world and are reported: how many of their hosts have
--- acknowledged all parts, of how many, and then each host's table.
-pub record AreInstalledTold (a : Adoption) (w : WorldState) (l : LastRoutes) (tries : ℕ) (after : WorldState)
-    (told : PrintedState) : Type 0 where
-  pub acked : ℕ
-  pub counted : acked ≡ (log.install a l.hosts tries w).value
-  pub led : after ≡ (log.install a l.hosts tries w).world
-  pub printed : told ≡ printed_of (fabric_of w)
-      (lines (Installed acked (length l.hosts) ∷ map (table_line after) l.hosts))
 
 -- The last routes, where there are any, were installed over a world or that was refused, and it is reported.
 pub record IsInstallTold (w : WorldState) (last : Option LastRoutes) (tries : ℕ) (after : WorldState)

@@ -27,7 +27,9 @@ use std::alloc::Global;
 use world_commands::{OutOfMemory, do_one, revoke};
 
 /// Does a command that makes no map: `map` only where that is refused. Where memory runs out, the world is one that a
-/// prefix of its acts leads to, and a refused command lacks only its line's text.
+/// prefix of its acts leads to, and a refused command lacks only its line's text. It stands in its caller, since what
+/// it answers is long to move.
+#[inline(always)]
 #[tactic(auto, using(crate::proofs::ByCommand::commands_obeyed))]
 pub(crate) fn obey_here(
     alloc: Global,

@@ -1,14 +1,11 @@
 //! An installation of the last routes, and what it prints.
 
 ghost use Rattle.std.specs.Prelude.{◌≡◌, ◌≤◌, ◌∷◌, [], true, Option, Some, None, if◌then◌else◌};
-ghost use Rattle.std.specs.Prelude.{IsSome, IfOk, IfErr, OnOk, OnErr};
+ghost use Rattle.std.specs.Prelude.{IfOk, IfErr, OnErr};
 ghost use Rattle.link_defs.specs.Links.{is_idle};
-ghost use Rattle.world_defs.specs.World.{fabric_of, may_adopt, adopted_by};
-ghost use Rattle.world_defs.specs.Logs as log;
-ghost use Rattle.world_defs.specs.Row.{IsPartWay};
+ghost use Rattle.world_defs.specs.World.{fabric_of, may_adopt};
 ghost use Rattle.run_defs.specs.Output.{OneLine};
 ghost use Rattle.run_defs.specs.Outcome.{adopt_cause, install as install_deed, may_install, refusal_cause};
-ghost use Rattle.world_defs.specs.Table.{Adoption};
 ghost use Rattle.run_defs.specs.Session.{LastMap, LastRoutes};
 ghost use Rattle.run_defs.specs.declared.command.Command.TheVariants.{Install};
 ghost use Rattle.run_defs.specs.declared.line.Line.TheVariants.{InstallRefused};
@@ -16,15 +13,15 @@ ghost use Rattle.fab_report.specs.Printed.{printed_of};
 ghost use Rattle.promise_laws.specs.CutShort.{IsPartActed};
 ghost use Rattle.world_commands.specs.Cut.{HidesNoRefusal};
 ghost use Rattle.world_commands.specs.Done.{session_of};
-ghost use Rattle.run_session.specs.Kept.{AreKeptRoutes, AreLastRoutes, WereKeptRoutes, GoesOn};
-ghost use Rattle.run_session.specs.Told.{IsOfLast, AreInstalledTold, IsInstallTold};
+ghost use Rattle.run_session.specs.Kept.{AreLastRoutes, WereKeptRoutes, GoesOn};
+ghost use Rattle.run_session.specs.Told.{IsInstallTold};
 
 use crate::last::LastFound;
 use fab_report::Printed;
 use fab_world::{AdoptRefusal, World};
 use run_defs::{InstallCause, Line};
-use std::alloc::{AllocError, Global};
-use table_installing::install;
+use std::alloc::Global;
+use table_installing::adopt_and_install;
 use world_commands::{OutOfMemory, one_line, print_tables};
 
 /// Installs the last routes, unless that is refused: no routes were computed, a channel holds a packet, a cable was
@@ -142,11 +139,13 @@ fn install_adoptable(
     ensures cables { GoesOn w.old w.new }
 {
     w.moment();
-    w.reached();
-    let Ok(()) = adopt_last(alloc, w, l) else {
+    let Ok(installed) = adopt_and_install(alloc, w, l.mapper, &l.routes, &l.hosts, tries) else {
         return Err(OutOfMemory::InDoing);
     };
-    install_adopted(alloc, w, l, tries)
+    let Ok(text) = print_tables(alloc, w, &l.hosts, installed.acked, installed.of) else {
+        return Err(OutOfMemory::InDoing);
+    };
+    Ok(text)
 }
 
 // The line of a refusal.
@@ -155,53 +154,4 @@ fn refused_text(alloc: Global, w: &World, cause: InstallCause) -> Result<Printed
     ensures err { IfErr result (λ e. e ≡ OutOfMemory.InLine) }
 {
     one_line(alloc, Line::InstallRefused(cause), w.fabric())
-}
-
-// Adopts the last routes, which may be adopted, by their mapper.
-fn adopt_last(alloc: Global, w: &mut World, l: &LastFound) -> Result<(), AllocError>
-    requires may { may_adopt w.old l.now.routes ≡ true }
-    requires kept { AreKeptRoutes (fabric_of w.old) l.now }
-    ensures after { OnOk result (w.new ≡ adopted_by w.old l.now.mapper l.now.routes) }
-    ensures err { OnErr result (w.new ≡ w.old) }
-    ensures fabric { fabric_of w.new ≡ fabric_of w.old }
-{
-    w.moment();
-    let set = l.routes.copied(alloc)?;
-    match w.adopt(alloc, l.mapper, set) {
-        Ok(()) => Ok(()),
-        Err((_, AdoptRefusal::Unrevoked(_))) => unreachable!(),
-        Err((_, AdoptRefusal::Epochs)) => unreachable!(),
-        Err((_, AdoptRefusal::NoMemory)) => Err(AllocError),
-    }
-}
-
-// Installs the last routes, which were just adopted, in an epoch that no host has given up.
-#[tactic(auto, using(crate::proofs::Going::goes_pulled))]
-fn install_adopted(
-    alloc: Global,
-    w: &mut World,
-    l: &LastFound,
-    tries: u8,
-) -> Result<Printed, OutOfMemory>
-    requires adopted { IsSome w.old.adopted }
-    requires last { (a : Adoption) → w.old.adopted ≡ Some a → IsOfLast w.old l.now a }
-    requires idle { is_idle w.old.links ≡ true }
-    requires kept { AreKeptRoutes (fabric_of w.old) l.now }
-    requires some { 1 ≤ tries }
-    requires few { tries ≤ 8 }
-    ensures told { (a : Adoption) → w.old.adopted ≡ Some a
-        → IfOk result (λ p. AreInstalledTold a w.old l.now tries w.new p) }
-    ensures err { (a : Adoption) → w.old.adopted ≡ Some a
-        → OnErr result (IsPartWay w.old (log.install a l.now.hosts tries w.old).events w.new) }
-    ensures doing { IfErr result (λ e. e ≡ OutOfMemory.InDoing) }
-    ensures cables { GoesOn w.old w.new }
-{
-    w.moment();
-    let Ok(installed) = install(alloc, w, &l.hosts, tries) else {
-        return Err(OutOfMemory::InDoing);
-    };
-    let Ok(text) = print_tables(alloc, w, &l.hosts, installed.acked, installed.of) else {
-        return Err(OutOfMemory::InDoing);
-    };
-    Ok(text)
 }

@@ -93,6 +93,7 @@ impl Session {
 
     /// Does a command as [`Session::exec`] does: the session then, and what it printed, with what a summary shows of
     /// it; or where memory ran out. A refused command runs out of it in its line alone.
+    #[inline(always)]
     pub fn perform(
         self,
         alloc: Global,

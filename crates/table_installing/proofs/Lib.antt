@@ -1,4 +1,5 @@
 pub mod Adoptions
+pub mod Both
 pub mod Causes
 pub mod Counts
 pub mod InstallHosts

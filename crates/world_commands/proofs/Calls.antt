@@ -1,5 +1,5 @@
 -- When a client's call may be made, and what its answer says.
-use Rattle.std.proofs.Common.{◌≡◌, ◌<◌, ◌≤◌, ◌+◌, ◌++◌, ℕ, true, [], ◌∷◌, length, Option, Some, None, sym, ◌∙◌, ap, arith}
+use Rattle.std.proofs.Common.{◌≡◌, ◌<◌, ◌≤◌, ◌+◌, ◌++◌, ℕ, true, [], ◌∷◌, length, Option, Some, None, sym, ◌∙◌, ap, subst, arith}
 use Rattle.std.specs.Option.{option_map}
 use Rattle.std.proofs.lemmas.Bool.Decides.{nat_tests}
 use Rattle.std.proofs.lemmas.List.FromFn.{map-range_with_len_more}
@@ -7,17 +7,22 @@ use Rattle.net_defs.specs.declared.vertex.Vertex.TheVariants.{Host}
 use Rattle.net_defs.specs.Network.{Network, has_vertex}
 use Rattle.gm_defs.specs.declared.token.TokenPlace.{TokenPlace}
 use Rattle.gm_defs.specs.Token.{PortState}
+use Rattle.world_defs.specs.declared.event.Event.{Event}
 use Rattle.world_defs.specs.declared.effect.Effect.TheVariants.{Said as SaidSo}
 use Rattle.world_defs.specs.declared.effect.Said.{Said}
 use Rattle.world_defs.specs.declared.effect.Said.TheVariants.{Received}
 use Rattle.world_defs.specs.World.{WorldState, fabric_of, host_count}
-use Rattle.run_defs.specs.Outcome.{places, token_lines}
+use Rattle.run_defs.specs.declared.command.Command.{Command}
+use Rattle.run_defs.specs.declared.line.ClientCall.{ClientCall}
+use Rattle.run_defs.specs.Outcome.{calling, places, token_lines}
 use Rattle.run_defs.specs.Output.{OneLine, lines}
 use Rattle.fab_report.specs.Printed.{PrintedState, printed_of}
 use Rattle.fab_report.specs.There.{IsSaidOf}
-use Rattle.fab_world.specs.Events.{IsHostOf}
+use Rattle.client_host.specs.Calls.{IsClientCall}
+use Rattle.fab_world.specs.Events.{IsHostOf, IsGiven}
 use Rattle.fab_world.specs.Held.{IsMoment, IsOfHosts}
-use Rattle.world_commands.specs.declared.requests.PortAt.{PortAt}
+use Rattle.fab_world.specs.declared.clients.PortAt.{PortAt}
+use Rattle.world_commands.specs.Done.{IsCall}
 use Rattle.world_commands.specs.Places.{tokens_line}
 use Rattle.world_commands.proofs.Naming.{reached-there}
 
@@ -36,6 +41,16 @@ port_given w host port m there low = (host-there w host m there, omega (arith, l
 pub message_given : (w : WorldState) (host dest port dport prio : ℕ) → IsMoment w → has_vertex (fabric_of w) (Host host) ≡ true → has_vertex (fabric_of w) (Host dest) ≡ true → port ≤ 7 → dport ≤ 7 → prio ≤ 1
     → IsHostOf w host × IsHostOf w dest × (port < 8) × (dport < 8) × (prio < 2)
 message_given w host dest port dport prio m there dest_there low dlow few = (host-there w host m there, host-there w dest m dest_there, omega (arith, low), omega (arith, dlow), omega (arith, few))
+
+-- so it is of the event that the call is
+pub event-given : (w : WorldState) (e event : Event) → IsGiven w e → event ≡ e → IsGiven w event
+event-given w e event given is = subst (IsGiven w) (sym is) given
+
+pub event-client : (e event : Event) → IsClientCall e → event ≡ e → IsClientCall event
+event-client e event call is = subst IsClientCall (sym is) call
+
+pub event-call : (c : Command) (call : ClientCall) (at : PortAt) (e event : Event) → IsCall c call at e → event ≡ e → IsCall c call at event
+event-call c call at e event of is = of ∙ ap (calling call at.host at.port) (sym is)
 
 -- the sender of a message that was received is a host of the fabric
 pub said_there : (n : Network) (said : Said) → IsOfHosts (length n.hosts) (SaidSo said) → IsSaidOf n said

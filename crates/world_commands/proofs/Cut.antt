@@ -23,7 +23,7 @@ use Rattle.fab_report.specs.Printed.{PrintedState, printed_of}
 use Rattle.fab_world.specs.Held.{is_refusal}
 use Rattle.world_commands.specs.declared.out_of_memory.OutOfMemory.{OutOfMemory}
 use Rattle.world_commands.specs.declared.out_of_memory.OutOfMemory.TheVariants.{InDoing, InLine}
-use Rattle.world_commands.specs.declared.requests.PortAt.{PortAt}
+use Rattle.fab_world.specs.declared.clients.PortAt.{PortAt}
 use Rattle.world_commands.specs.Cut.{is_refusal_line, IsRefused, IsLeft, IsEventLeft}
 use Rattle.world_commands.specs.Cut.IsLeft.{undone, unprinted}
 use Rattle.world_commands.specs.Done.{IsCall, IsDone, session_of}

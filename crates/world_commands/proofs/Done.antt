@@ -19,7 +19,7 @@ use Rattle.run_defs.specs.Output.{OneLine, lines}
 use Rattle.run_defs.specs.Duos.{IsOther}
 use Rattle.run_defs.specs.Session.{SessionState, LastMap, LastRoutes}
 use Rattle.fab_report.specs.Printed.{PrintedState, printed_of}
-use Rattle.world_commands.specs.declared.requests.PortAt.{PortAt}
+use Rattle.fab_world.specs.declared.clients.PortAt.{PortAt}
 use Rattle.world_commands.specs.Done.{IsCall, IsDone, IsOneEvent, session_of}
 
 -- a command whose outcome is one line

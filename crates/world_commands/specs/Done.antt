@@ -11,7 +11,7 @@ use Rattle.run_defs.specs.Outcome.{calling, kind_of, outcome}
 use Rattle.run_defs.specs.Output.{Piece}
 use Rattle.run_defs.specs.Session.{SessionState, LastMap, LastRoutes}
 use Rattle.fab_report.specs.Printed.{PrintedState, printed_of}
-use Rattle.world_commands.specs.declared.requests.PortAt.{PortAt}
+use Rattle.fab_world.specs.declared.clients.PortAt.{PortAt}
 use Rattle.world_commands.specs.declared.requests.SendRequest.{SendRequest}
 
 -- a session with a world, a last map and last routes, in which the two hosts that restart have not begun

@@ -5,7 +5,7 @@ use Rattle.host_ports.specs.Held.{place_at}
 use Rattle.run_defs.specs.declared.line.Line.{Line}
 use Rattle.run_defs.specs.declared.line.Line.TheVariants.{Tokens}
 use Rattle.run_defs.specs.Outcome.{places}
-use Rattle.world_commands.specs.declared.requests.PortAt.{PortAt}
+use Rattle.fab_world.specs.declared.clients.PortAt.{PortAt}
 
 -- the line of so many send tokens and receive tokens of a port
 abbrev pub tokens_line : PortAt → ℕ → ℕ → Option PortState → Line

@@ -11,14 +11,13 @@ ghost use Rattle.world_commands.specs.Done.{IsDone, sending};
 
 use crate::answers::call;
 use crate::out_of_memory::OutOfMemory;
-use crate::requests::{PortAt, SendRequest};
+use crate::requests::SendRequest;
 use fab_report::Printed;
-use fab_world::{Event, World};
+use fab_world::{PortAt, World};
 use run_defs::ClientCall;
 use std::alloc::Global;
 
 /// Opens a port with so many tokens for sends and for receives.
-#[tactic(auto, using(crate::proofs::Calls::port_given))]
 pub fn open(
     alloc: Global,
     w: &mut World,
@@ -33,17 +32,10 @@ pub fn open(
     ensures cables { IsLater w.old.links.cables w.new.links.cables }
 {
     w.moment();
-    let event = Event::Begin {
-        host: at.host,
-        port: at.port,
-        sends,
-        recvs,
-    };
-    call(alloc, w, ClientCall::Begin, at, event)
+    call(alloc, w, ClientCall::Begin, at, at.begin(sends, recvs))
 }
 
 /// Closes a port.
-#[tactic(auto, using(crate::proofs::Calls::port_given))]
 pub fn close(alloc: Global, w: &mut World, at: PortAt) -> Result<Printed, OutOfMemory>
     requires there { IsHost (fabric_of w.old) at.host }
     requires port { at.port ≤ 7 }
@@ -52,15 +44,10 @@ pub fn close(alloc: Global, w: &mut World, at: PortAt) -> Result<Printed, OutOfM
     ensures cables { IsLater w.old.links.cables w.new.links.cables }
 {
     w.moment();
-    let event = Event::Close {
-        host: at.host,
-        port: at.port,
-    };
-    call(alloc, w, ClientCall::Close, at, event)
+    call(alloc, w, ClientCall::Close, at, at.close())
 }
 
 /// Takes the next event of a port.
-#[tactic(auto, using(crate::proofs::Calls::port_given))]
 pub fn poll(alloc: Global, w: &mut World, at: PortAt) -> Result<Printed, OutOfMemory>
     requires there { IsHost (fabric_of w.old) at.host }
     requires port { at.port ≤ 7 }
@@ -69,15 +56,10 @@ pub fn poll(alloc: Global, w: &mut World, at: PortAt) -> Result<Printed, OutOfMe
     ensures cables { IsLater w.old.links.cables w.new.links.cables }
 {
     w.moment();
-    let event = Event::Poll {
-        host: at.host,
-        port: at.port,
-    };
-    call(alloc, w, ClientCall::Poll, at, event)
+    call(alloc, w, ClientCall::Poll, at, at.poll())
 }
 
 /// Provides a buffer for messages of a size and a priority.
-#[tactic(auto, using(crate::proofs::Calls::port_given))]
 pub fn provide(
     alloc: Global,
     w: &mut World,
@@ -92,17 +74,10 @@ pub fn provide(
     ensures cables { IsLater w.old.links.cables w.new.links.cables }
 {
     w.moment();
-    let event = Event::Provide {
-        host: at.host,
-        port: at.port,
-        size,
-        prio,
-    };
-    call(alloc, w, ClientCall::Provide, at, event)
+    call(alloc, w, ClientCall::Provide, at, at.provide(size, prio))
 }
 
 /// Sends a message from a port.
-#[tactic(auto, using(crate::proofs::Calls::message_given))]
 pub fn send(
     alloc: Global,
     w: &mut World,
@@ -119,14 +94,6 @@ pub fn send(
     ensures cables { IsLater w.old.links.cables w.new.links.cables }
 {
     w.moment();
-    let event = Event::Send {
-        host: at.host,
-        port: at.port,
-        dest: m.to.host,
-        dport: m.to.port,
-        prio: m.prio,
-        len: m.len,
-        seed: m.seed,
-    };
+    let event = at.send(m.to, m.prio, m.len, m.seed);
     call(alloc, w, ClientCall::Send, at, event)
 }

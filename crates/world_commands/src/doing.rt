@@ -11,11 +11,11 @@ use crate::clients::{close, open, poll, provide, send};
 use crate::out_of_memory::OutOfMemory;
 use crate::places::tokens;
 use crate::remapping::{broken, plug, pull};
-use crate::requests::{PortAt, SendRequest};
+use crate::requests::SendRequest;
 use crate::stepping::step;
 use crate::telling::{finish, plan};
 use fab_report::Printed;
-use fab_world::World;
+use fab_world::{PortAt, World};
 use run_defs::Command;
 use std::alloc::Global;
 

@@ -18,7 +18,7 @@
 //!
 //! | module | has |
 //! |---|---|
-//! | `requests` | a port of a host, and a message to be sent |
+//! | `requests` | a message to be sent |
 //! | `out_of_memory` | where memory ran out in a command: while it was done, or in the text of its line alone |
 //! | `clients` | the calls of clients, by their events |
 //! | `answers` | one event of a client, and what it was answered |
@@ -46,10 +46,11 @@ mod telling;
 pub use clients::{close, open, poll, provide, send};
 pub use doing::do_one;
 pub use duo_events::{duo, end_duo};
+pub use fab_world::PortAt;
 pub use out_of_memory::{OutOfMemory, in_line, one_line};
 pub use places::tokens;
 pub use remapping::{broken, plug, pull, revoke};
-pub use requests::{PortAt, SendRequest};
+pub use requests::SendRequest;
 pub use stepping::step;
 pub use tables::print_tables;
 pub use telling::{finish, plan, walk};

@@ -19,7 +19,9 @@ pub enum OutOfMemory {
     InLine,
 }
 
-/// The text of a command's one line, for which memory may run out.
+/// The text of a command's one line, for which memory may run out. It stands in its callers, since what it answers is
+/// long to move.
+#[inline(always)]
 pub fn one_line(alloc: Global, l: Line, f: &Fabric) -> Result<Printed, OutOfMemory>
     requires there { AreThere f.now l }
     ensures printed { IfOk result (λ p. p ≡ printed_of f.now (OneLine l ∷ [])) }

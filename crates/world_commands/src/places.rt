@@ -16,9 +16,8 @@ ghost use Rattle.world_commands.specs.Places.{tokens_line};
 
 use crate::answers::answer_text;
 use crate::out_of_memory::{OutOfMemory, in_line};
-use crate::requests::PortAt;
 use fab_report::Printed;
-use fab_world::World;
+use fab_world::{PortAt, World};
 use run_defs::{ClientCall, Line, PlaceEntry, PlaceList};
 use std::alloc::{AllocError, Global};
 use world_defs::{ClientCause, Said};

@@ -1,25 +1,6 @@
-//! What clients ask for.
+//! A message that a client asks to be sent.
 
-ghost use Rattle.std.specs.Prelude.{◌≡◌};
-
-/// A port of a host.
-#[derive(Clone, Copy)]
-pub struct PortAt {
-    /// The host's address.
-    pub host: u16,
-    /// The port's number.
-    pub port: u8,
-}
-
-impl PortAt {
-    /// The port of that number of the host at that address.
-    pub const fn new(host: u16, port: u8) -> PortAt
-        ensures host { result.host ≡ host }
-        ensures port { result.port ≡ port }
-    {
-        PortAt { host, port }
-    }
-}
+use fab_world::PortAt;
 
 /// A message to be sent.
 #[derive(Clone, Copy)]

@@ -20,4 +20,4 @@ returns-clause-kept c =
     let stays : after.made ≡ before.made = asked-made before after told.made.journal told.made.led in
     let past : fabric_at after.world.links.cables before.made ≡ n = ap (λ k. fabric_at after.world.links.cables k) (sym stays) ∙ told.same_fabric in
     subst (λ (k : Network). IsKeptMap k before.host made.map) (sym past)
-    (kept-map WorldAsking IsAsked n before.host 4 after.drowned before after made fabric low told.made c.vertices.ensures.is_map.is_map (told.certificate says) told.of_fabric)
+    (kept-map WorldAsking IsAsked n before.host 4 after.drowned before after made fabric low told.made says c.vertices.ensures.is_map.is_map (told.certificate says) told.of_fabric)

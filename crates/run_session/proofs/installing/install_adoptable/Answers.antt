@@ -1,48 +1,101 @@
-use Rattle.std.proofs.Common.{Some, sym, subst}
-use Rattle.net_defs.specs.Network.{Network}
-use Rattle.cable_history.specs.History.{fabric_at}
+use Rattle.std.proofs.Common.{◌≡◌, ◌∙◌, ◌<◌, ℕ, Some, refl, subst, sym}
+use Rattle.std.specs.List.{AllByRecursion}
+use Rattle.world_defs.specs.World.{WorldState, fabric_of}
+use Rattle.fab_world.specs.Events.{IsHostOf}
 use Rattle.run_defs.specs.Outcome.{install}
-use Rattle.promise_laws.proofs.CutShort.{part-none}
-use Rattle.run_session.specs.Kept.{AreKeptRoutes}
-use Rattle.run_session.proofs.Going.{goes-as, goes-on, goes-adopted, routes-now}
-use Rattle.run_session.proofs.Installs.{unchanged-may, adopted-idle, adopted-are_last, adopted-told, cut-by}
+use Rattle.run_defs.specs.Session.{LastRoutes}
+use Rattle.route_making.specs.Kept.{AreKeptRoutes}
+use Rattle.route_making.proofs.Adoptable.{kept-adoptable, kept-rise, kept-named}
+use Rattle.run_session.proofs.Installable.{mapper-there, hosts-there}
+use Rattle.run_session.proofs.Installs.{kept-copy, goes-pulled_after, goes-part, whole-part, cut-part, installed-told}
 use Rattle.run_session.proofs.installing.install_adoptable.Goals as goal
 
-pub adopt_last-requires-clause-may : goal.adopt_last-requires-clause-may
-adopt_last-requires-clause-may c = (unchanged-may c.args.w.now c.args.l.now c.requires.may).1
+-- the routes, with their mapper and hosts, are the last ones
+pub adopt_and_install-requires-clause-there : goal.adopt_and_install-requires-clause-there
+adopt_and_install-requires-clause-there c =
+    let w : WorldState = c.args.w.now in
+    let k : LastRoutes = record { mapper = c.l.inside.mapper; hosts = c.deref.result.now; routes = c.l.inside.routes; began = c.l.inside.began } in
+    let same : k ≡ c.args.l.now = (λ i. record { mapper = c.l.inside.mapper; hosts = c.deref.ensures.value i; routes = c.l.inside.routes; began = c.l.inside.began }) ∙ c.l.view_is in
+    let kept : AreKeptRoutes (fabric_of w) k = kept-copy w k c.args.l.now c.moment.ensures.kept same c.requires.may c.requires.kept in
+    mapper-there w k c.moment.ensures.kept kept
 
-pub adopt_last-requires-clause-kept : goal.adopt_last-requires-clause-kept
-adopt_last-requires-clause-kept c = routes-now c.args.w.now c.args.l.now c.moment.ensures.kept (unchanged-may c.args.w.now c.args.l.now c.requires.may).0 c.requires.kept
+pub adopt_and_install-requires-clause-adoptable : goal.adopt_and_install-requires-clause-adoptable
+adopt_and_install-requires-clause-adoptable c =
+    let w : WorldState = c.args.w.now in
+    let k : LastRoutes = record { mapper = c.l.inside.mapper; hosts = c.deref.result.now; routes = c.l.inside.routes; began = c.l.inside.began } in
+    let same : k ≡ c.args.l.now = (λ i. record { mapper = c.l.inside.mapper; hosts = c.deref.ensures.value i; routes = c.l.inside.routes; began = c.l.inside.began }) ∙ c.l.view_is in
+    let kept : AreKeptRoutes (fabric_of w) k = kept-copy w k c.args.l.now c.moment.ensures.kept same c.requires.may c.requires.kept in
+    kept-adoptable (fabric_of w) k c.moment.ensures.kept.fabric kept
 
-pub install_adopted-requires-clause-kept : goal.install_adopted-requires-clause-kept
-install_adopted-requires-clause-kept c =
-    subst (λ (n : Network). AreKeptRoutes n c.args.l.now) (sym c.in-Ok.ensures.fabric)
-    (routes-now c.args.w.now c.args.l.now c.moment.ensures.kept (unchanged-may c.args.w.now c.args.l.now c.requires.may).0 c.requires.kept)
+pub adopt_and_install-requires-clause-rise : goal.adopt_and_install-requires-clause-rise
+adopt_and_install-requires-clause-rise c =
+    let w : WorldState = c.args.w.now in
+    let k : LastRoutes = record { mapper = c.l.inside.mapper; hosts = c.deref.result.now; routes = c.l.inside.routes; began = c.l.inside.began } in
+    let same : k ≡ c.args.l.now = (λ i. record { mapper = c.l.inside.mapper; hosts = c.deref.ensures.value i; routes = c.l.inside.routes; began = c.l.inside.began }) ∙ c.l.view_is in
+    let kept : AreKeptRoutes (fabric_of w) k = kept-copy w k c.args.l.now c.moment.ensures.kept same c.requires.may c.requires.kept in
+    kept-rise (fabric_of w) k kept
 
-pub install_adopted-requires-clause-idle : goal.install_adopted-requires-clause-idle
-install_adopted-requires-clause-idle c = adopted-idle c.args.w.now c.adopt_last.new.w c.args.l.now c.requires.idle c.in-Ok.ensures.after
-
-pub install_adopted-requires-clause-adopted : goal.install_adopted-requires-clause-adopted
-install_adopted-requires-clause-adopted c = (adopted-are_last (fabric_at c.args.w.now.links.cables 0) c.args.w.now c.adopt_last.new.w c.args.l.now c.reached.ensures (unchanged-may c.args.w.now c.args.l.now c.requires.may).1 c.in-Ok.ensures.after).0
-
-pub install_adopted-requires-clause-last : goal.install_adopted-requires-clause-last
-install_adopted-requires-clause-last c = (adopted-are_last (fabric_at c.args.w.now.links.cables 0) c.args.w.now c.adopt_last.new.w c.args.l.now c.reached.ensures (unchanged-may c.args.w.now c.args.l.now c.requires.may).1 c.in-Ok.ensures.after).1
+pub adopt_and_install-requires-clause-named : goal.adopt_and_install-requires-clause-named
+adopt_and_install-requires-clause-named c =
+    let w : WorldState = c.args.w.now in
+    let k : LastRoutes = record { mapper = c.l.inside.mapper; hosts = c.deref.result.now; routes = c.l.inside.routes; began = c.l.inside.began } in
+    let same : k ≡ c.args.l.now = (λ i. record { mapper = c.l.inside.mapper; hosts = c.deref.ensures.value i; routes = c.l.inside.routes; began = c.l.inside.began }) ∙ c.l.view_is in
+    let kept : AreKeptRoutes (fabric_of w) k = kept-copy w k c.args.l.now c.moment.ensures.kept same c.requires.may c.requires.kept in
+    kept-named (fabric_of w) k kept
 
 pub returns-in_default-clause-err : goal.returns-in_default-clause-err
 returns-in_default-clause-err c =
-    part-none c.args.w.now c.adopt_last.new.w (install c.args.w.now c.args.tries (Some c.args.l.now)).acts c.in_default.ensures.err
+    let w : WorldState = c.args.w.now in
+    let k : LastRoutes = record { mapper = c.l.inside.mapper; hosts = c.deref.result.now; routes = c.l.inside.routes; began = c.l.inside.began } in
+    let same : k ≡ c.args.l.now = (λ i. record { mapper = c.l.inside.mapper; hosts = c.deref.ensures.value i; routes = c.l.inside.routes; began = c.l.inside.began }) ∙ c.l.view_is in
+    cut-part w c.adopt_and_install.new.w k c.args.l.now c.args.tries same c.requires.idle c.requires.may c.in_default.ensures.err
+
+pub returns-in_default-clause-cables : goal.returns-in_default-clause-cables
+returns-in_default-clause-cables c =
+    let w : WorldState = c.args.w.now in
+    let k : LastRoutes = record { mapper = c.l.inside.mapper; hosts = c.deref.result.now; routes = c.l.inside.routes; began = c.l.inside.began } in
+    let same : k ≡ c.args.l.now = (λ i. record { mapper = c.l.inside.mapper; hosts = c.deref.ensures.value i; routes = c.l.inside.routes; began = c.l.inside.began }) ∙ c.l.view_is in
+    goes-part w c.adopt_and_install.new.w k c.args.tries c.in_default.ensures.err
+
+pub print_tables-requires : goal.print_tables-requires
+print_tables-requires c =
+    let w : WorldState = c.args.w.now in
+    let k : LastRoutes = record { mapper = c.l.inside.mapper; hosts = c.deref.result.now; routes = c.l.inside.routes; began = c.l.inside.began } in
+    let same : k ≡ c.args.l.now = (λ i. record { mapper = c.l.inside.mapper; hosts = c.deref.ensures.value i; routes = c.l.inside.routes; began = c.l.inside.began }) ∙ c.l.view_is in
+    let kept : AreKeptRoutes (fabric_of w) k = kept-copy w k c.args.l.now c.moment.ensures.kept same c.requires.may c.requires.kept in
+    let there = hosts-there w k c.moment.ensures.kept kept in
+    let hosts = c.adopt_and_install.ensures.hosts in
+    record {
+      hosts = subst (λ (count : ℕ). AllByRecursion (λ h. h < count) c.deref-2.result.now) (sym hosts)
+          (subst (AllByRecursion (IsHostOf w)) (c.deref.ensures.value ∙ sym c.deref-2.ensures.value) there);
+    }
+
+pub returns-in_default-print_tables-clause-err : goal.returns-in_default-print_tables-clause-err
+returns-in_default-print_tables-clause-err c =
+    let w : WorldState = c.args.w.now in
+    let k : LastRoutes = record { mapper = c.l.inside.mapper; hosts = c.deref.result.now; routes = c.l.inside.routes; began = c.l.inside.began } in
+    let same : k ≡ c.args.l.now = (λ i. record { mapper = c.l.inside.mapper; hosts = c.deref.ensures.value i; routes = c.l.inside.routes; began = c.l.inside.began }) ∙ c.l.view_is in
+    cut-part w c.adopt_and_install.new.w k c.args.l.now c.args.tries same c.requires.idle c.requires.may (whole-part w c.adopt_and_install.new.w k c.args.tries c.in-Ok.ensures.after)
+
+pub returns-in_default-print_tables-clause-cables : goal.returns-in_default-print_tables-clause-cables
+returns-in_default-print_tables-clause-cables c =
+    let w : WorldState = c.args.w.now in
+    let k : LastRoutes = record { mapper = c.l.inside.mapper; hosts = c.deref.result.now; routes = c.l.inside.routes; began = c.l.inside.began } in
+    let same : k ≡ c.args.l.now = (λ i. record { mapper = c.l.inside.mapper; hosts = c.deref.ensures.value i; routes = c.l.inside.routes; began = c.l.inside.began }) ∙ c.l.view_is in
+    goes-pulled_after w c.adopt_and_install.new.w k c.in-Ok.ensures.cables
 
 pub returns-clause-told : goal.returns-clause-told
 returns-clause-told c =
-    adopted-told c.args.w.now c.adopt_last.new.w c.install_adopted.new.w c.args.l.now c.args.tries c.install_adopted.result c.requires.idle c.requires.may c.in-Ok.ensures.after c.install_adopted.ensures.told
-
-pub returns-clause-err : goal.returns-clause-err
-returns-clause-err c =
-    cut-by c.install_adopted.result c.args.w.now c.adopt_last.new.w c.install_adopted.new.w c.args.l.now c.args.tries c.requires.idle c.requires.may c.in-Ok.ensures.after c.install_adopted.ensures.err
-
-pub returns-in_default-clause-cables : goal.returns-in_default-clause-cables
-returns-in_default-clause-cables c = goes-as c.args.w.now c.adopt_last.new.w c.in_default.ensures.err
+    let w : WorldState = c.args.w.now in
+    let k : LastRoutes = record { mapper = c.l.inside.mapper; hosts = c.deref.result.now; routes = c.l.inside.routes; began = c.l.inside.began } in
+    let same : k ≡ c.args.l.now = (λ i. record { mapper = c.l.inside.mapper; hosts = c.deref.ensures.value i; routes = c.l.inside.routes; began = c.l.inside.began }) ∙ c.l.view_is in
+    let x = c.in-Ok.installed in
+    installed-told w c.adopt_and_install.new.w k c.args.l.now c.args.tries x.acked x.of c.deref-2.result.now c.in-Ok-print_tables.text same c.requires.idle c.requires.may c.in-Ok.ensures.acked c.in-Ok.ensures.after
+    c.in-Ok.ensures.cables c.in-Ok.ensures.of (c.deref-2.ensures.value ∙ sym c.deref.ensures.value) c.in-Ok-print_tables.ensures
 
 pub returns-clause-cables : goal.returns-clause-cables
 returns-clause-cables c =
-    goes-on c.args.w.now c.adopt_last.new.w c.install_adopted.new.w (goes-adopted c.args.w.now c.adopt_last.new.w c.args.l.now.mapper c.args.l.now.routes c.in-Ok.ensures.after) c.install_adopted.ensures.cables
+    let w : WorldState = c.args.w.now in
+    let k : LastRoutes = record { mapper = c.l.inside.mapper; hosts = c.deref.result.now; routes = c.l.inside.routes; began = c.l.inside.began } in
+    let same : k ≡ c.args.l.now = (λ i. record { mapper = c.l.inside.mapper; hosts = c.deref.ensures.value i; routes = c.l.inside.routes; began = c.l.inside.began }) ∙ c.l.view_is in
+    goes-pulled_after w c.adopt_and_install.new.w k c.in-Ok.ensures.cables
