@@ -19,6 +19,10 @@ spaced_both w ws vs = spaced_behind w (ws ++ vs) ∙ ap (λ t. w ++ t) (flat_map
 two : (old a b : List ℕ) {t u : List ℕ} → t ≡ old ++ a → u ≡ t ++ b → u ≡ old ++ (a ++ b)
 two old a b e f = f ∙ ap (λ x. x ++ b) e ∙ append_assoc old a b
 
+-- three parts that were written one after the other
+pub three_parts : (old a b c : List ℕ) {t u v : List ℕ} → t ≡ old ++ a → u ≡ t ++ b → v ≡ u ++ c → v ≡ old ++ (a ++ (b ++ c))
+three_parts old a b c {t} e f g = two old a (b ++ c) e (two t b c f g)
+
 -- words of a line, and others after them
 pub continued : (old w : List ℕ) (ws vs : List (List ℕ)) {t u : List ℕ} → t ≡ old ++ spaced (w ∷ ws) → u ≡ t ++ behind vs → u ≡ old ++ spaced (w ∷ (ws ++ vs))
 continued old w ws vs e f =
@@ -49,6 +53,11 @@ placed old xs ys {t} {u} e f g =
     followed_by old (map place_text xs) (codes "recv" ∷ map place_text ys)
     (e ∙ ap (λ z. old ++ z) (sym (places_behind xs)))
     (followed_by t (codes "recv" ∷ []) (map place_text ys) f (g ∙ ap (λ z. u ++ z) (sym (places_behind ys))))
+
+-- three bytes after a text, one after the other
+pub three : (old : List ℕ) (a b c : ℕ) {t u v : List ℕ} → t ≡ old ++ a ∷ [] → u ≡ t ++ b ∷ [] → v ≡ u ++ c ∷ [] → v ≡ old ++ a ∷ b ∷ c ∷ []
+three old a b c e f g =
+    g ∙ ap (λ l. l ++ c ∷ []) (f ∙ ap (λ l. l ++ b ∷ []) e ∙ append_assoc old (a ∷ []) (b ∷ [])) ∙ append_assoc old (a ∷ b ∷ []) (c ∷ [])
 
 -- a number from 10 to 19 is written as a one, and then what is above 10
 pub teen : (n : ℕ) → 10 ≤ n → n < 20 → 49 ∷ (48 + (n - 10)) ∷ [] ≡ decimal n

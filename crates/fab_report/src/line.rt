@@ -17,6 +17,7 @@ use crate::generated::append_generated_line;
 use crate::mapping::{append_map_line, route_line};
 use crate::places::tokens_line;
 use crate::step::step_line;
+use crate::words::append_numbered;
 use fab_text::FaultKind;
 use itoa::Buffer;
 use line_writing::Word::{Number, Text};
@@ -216,18 +217,9 @@ fn settle_line(text: &mut Vec<u8>, rounds: u64, resets: u64, unacked: u64) -> Re
         ++ spaced (codes "settle" ∷ codes "rounds" ∷ decimal rounds ∷ codes "resets" ∷ decimal resets
         ∷ codes "unacked" ∷ decimal unacked ∷ [])) }
 {
-    append_words(
-        text,
-        &[
-            Text(b"settle"),
-            Text(b"rounds"),
-            Number(rounds),
-            Text(b"resets"),
-            Number(resets),
-            Text(b"unacked"),
-            Number(unacked),
-        ],
-    )
+    append_numbered(text, b"settle rounds", rounds)?;
+    append_numbered(text, b" resets", resets)?;
+    append_numbered(text, b" unacked", unacked)
 }
 
 // `end injected N dropped M`

@@ -148,17 +148,11 @@ fn append_turns(text: &mut Vec<u8>, turns: &[i8]) -> Result<(), AllocError>
     Ok(())
 }
 
-// A turn after other words. Most words of a report are turns, so none is made a `Word` first.
+// A turn after other words. Most words of a report are turns, so none is made a `Word` first, room for one is asked for
+// once, and the most frequent ones are written where the loop over turns stands.
+#[inline(always)]
 fn append_turn(text: &mut Vec<u8>, turn: i8) -> Result<(), AllocError>
     ensures { OnOk result (text.new.items ≡ text.old.items ++ 32 ∷ turn_text turn) }
-{
-    text.push(b' ')?;
-    append_bare_turn(text, turn)
-}
-
-// A turn.
-fn append_bare_turn(text: &mut Vec<u8>, turn: i8) -> Result<(), AllocError>
-    ensures { OnOk result (text.new.items ≡ text.old.items ++ turn_text turn) }
 {
     let size = turn.unsigned_abs();
     if turn > 0 {
@@ -166,44 +160,57 @@ fn append_bare_turn(text: &mut Vec<u8>, turn: i8) -> Result<(), AllocError>
     } else if turn < 0 {
         append_signed(text, b'-', size)
     } else {
-        text.push(b'0')?;
-        Ok(())
+        append_bytes(text, b" 0")
     }
 }
 
-// A sign and a number. A turn has no more than 15, so its digits are known without a division.
+// A space, a sign and a number. A turn has no more than 15, so its digits are known without a division.
+#[inline(always)]
 fn append_signed(text: &mut Vec<u8>, sign: u8, size: u8) -> Result<(), AllocError>
-    ensures { OnOk result (text.new.items ≡ text.old.items ++ sign ∷ decimal size) }
+    ensures { OnOk result (text.new.items ≡ text.old.items ++ 32 ∷ sign ∷ decimal size) }
 {
     if size < 10 {
         append_digit(text, sign, size)
     } else if size < 20 {
         append_teen(text, sign, size)
     } else {
-        append_marked(text, sign, u64::from(size))
+        append_greater(text, sign, size)
     }
 }
 
-// A sign and a number of one digit.
+// A space, a sign and a number of one digit.
+#[inline(always)]
 fn append_digit(text: &mut Vec<u8>, sign: u8, size: u8) -> Result<(), AllocError>
     requires { size < 10 }
-    ensures { OnOk result (text.new.items ≡ text.old.items ++ sign ∷ decimal size) }
+    ensures { OnOk result (text.new.items ≡ text.old.items ++ 32 ∷ sign ∷ decimal size) }
 {
-    text.push(sign)?;
-    text.push(b'0' + size)?;
+    text.reserve(3)?;
+    text.push_reserved(b' ');
+    text.push_reserved(sign);
+    text.push_reserved(b'0' + size);
     Ok(())
 }
 
-// A sign and a number from 10 to 19.
+// A space, a sign and a number from 10 to 19.
 fn append_teen(text: &mut Vec<u8>, sign: u8, size: u8) -> Result<(), AllocError>
     requires least { 10 ≤ size }
     requires most { size < 20 }
-    ensures { OnOk result (text.new.items ≡ text.old.items ++ sign ∷ decimal size) }
+    ensures { OnOk result (text.new.items ≡ text.old.items ++ 32 ∷ sign ∷ decimal size) }
 {
-    text.push(sign)?;
-    text.push(b'1')?;
-    text.push(b'0' + (size - 10))?;
+    text.reserve(4)?;
+    text.push_reserved(b' ');
+    text.push_reserved(sign);
+    text.push_reserved(b'1');
+    text.push_reserved(b'0' + (size - 10));
     Ok(())
+}
+
+// A space, a sign and any number.
+fn append_greater(text: &mut Vec<u8>, sign: u8, size: u8) -> Result<(), AllocError>
+    ensures { OnOk result (text.new.items ≡ text.old.items ++ 32 ∷ sign ∷ decimal size) }
+{
+    text.push(b' ')?;
+    append_marked(text, sign, u64::from(size))
 }
 
 // `rank V P R`

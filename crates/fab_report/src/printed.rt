@@ -53,7 +53,8 @@ impl Printed {
     }
 
     /// A line was printed. The hosts, switches and ends that it names are of the fabric, whose names it is printed
-    /// with.
+    /// with. It stands in its callers, and so does the next, since what they answer is long to move.
+    #[inline(always)]
     #[tactic(auto, using(crate::proofs::Printing::line_printed))]
     pub fn line(alloc: Global, l: &Line, f: &Fabric) -> Result<Printed, AllocError>
         requires there { AreThere f.now l.now }
@@ -67,6 +68,7 @@ impl Printed {
     }
 
     /// A line was printed, as [`Printed::line`] prints it, and is done with: callers that make a line need not end it.
+    #[inline(always)]
     pub fn of_line(alloc: Global, l: Line, f: &Fabric) -> Result<Printed, AllocError>
         requires there { AreThere f.now l }
         ensures printed { IfOk result (λ p. p ≡ printed_of f.now (OneLine l ∷ [])) }

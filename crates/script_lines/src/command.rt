@@ -23,27 +23,32 @@ use std::alloc::Global;
 /// the second word too), the number of words, each further word's form from left to right, and then the rules of the
 /// fabric. A line that has a fault takes no memory.
 ///
-/// The words that most lines of a long script begin with are looked for first.
+/// The words that most lines of a long script begin with are looked for first. Each answer is returned at once: an `if`
+/// whose value is a command would copy it once for each word in front of its own.
 pub fn read_command(alloc: Global, fabric: &Fabric, line: &[u8]) -> Result<Command, LineFault>
     ensures reading { LineGives (command_of fabric.now (words_of line.now)) result }
     ensures memory { IsErrOf result LineFault.NoMemory → IsOk (command_of fabric.now (words_of line.now)) }
 {
     let args = words(line);
     if let Some(left) = after_keyword(&args, b"walk") {
-        walk(alloc, fabric, left)
-    } else if let Some(left) = after_keyword(&args, b"duo") {
-        in_line(duo(fabric, left))
-    } else if let Some(left) = after_keyword(&args, b"plan") {
-        in_line(plan(fabric, left))
-    } else if let Some(left) = after_keyword(&args, b"poll") {
-        in_line(at_port(fabric, PortCall::Poll, left))
-    } else if let Some(left) = after_keyword(&args, b"provide") {
-        in_line(provide(fabric, left))
-    } else if let Some(left) = after_keyword(&args, b"send") {
-        in_line(send(fabric, left))
-    } else {
-        read_words(alloc, fabric, args)
+        return walk(alloc, fabric, left);
     }
+    if let Some(left) = after_keyword(&args, b"duo") {
+        return in_line(duo(fabric, left));
+    }
+    if let Some(left) = after_keyword(&args, b"plan") {
+        return in_line(plan(fabric, left));
+    }
+    if let Some(left) = after_keyword(&args, b"poll") {
+        return in_line(at_port(fabric, PortCall::Poll, left));
+    }
+    if let Some(left) = after_keyword(&args, b"provide") {
+        return in_line(provide(fabric, left));
+    }
+    if let Some(left) = after_keyword(&args, b"send") {
+        return in_line(send(fabric, left));
+    }
+    read_words(alloc, fabric, args)
 }
 
 // The command of a line by its first word, wherever that ends. It is no part of its caller, which each line pays for.

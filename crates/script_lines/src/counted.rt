@@ -42,25 +42,29 @@ pub(crate) fn three(mut args: Words) -> Option<(&[u8], &[u8], &[u8])>
     ensures { MatchOption result (nat_eq 3 (length (words_of args.entry)) ≡ false) (λ a.
         words_of args.entry ≡ a.0.now ∷ a.1.now ∷ a.2.now ∷ []) }
 {
-    match args.next_word() {
-        Some(first) => match two(args) {
-            Some((second, third)) => Some((first, second, third)),
-            None => None,
-        },
+    let (Some(first), Some(second)) = (args.next_word(), args.next_word()) else {
+        return None;
+    };
+    match one(args) {
+        Some(third) => Some((first, second, third)),
         None => None,
     }
 }
 
-/// The four words that are left.
+/// The four words that are left. They are taken in one function: each that handed on the words after its own would copy
+/// them.
 pub(crate) fn four(mut args: Words) -> Option<(&[u8], &[u8], &[u8], &[u8])>
     ensures { MatchOption result (nat_eq 4 (length (words_of args.entry)) ≡ false) (λ a.
         words_of args.entry ≡ a.0.now ∷ a.1.now ∷ a.2.now ∷ a.3.now ∷ []) }
 {
-    match args.next_word() {
-        Some(first) => match three(args) {
-            Some((second, third, fourth)) => Some((first, second, third, fourth)),
-            None => None,
-        },
+    let (Some(first), Some(second)) = (args.next_word(), args.next_word()) else {
+        return None;
+    };
+    let Some(third) = args.next_word() else {
+        return None;
+    };
+    match one(args) {
+        Some(fourth) => Some((first, second, third, fourth)),
         None => None,
     }
 }

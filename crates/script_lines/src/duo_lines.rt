@@ -35,20 +35,24 @@ pub(crate) fn duo(fabric: &Fabric, args: Words) -> Result<Command, FaultKind>
     ensures { result ≡ by_second fabric.now duo_kinds (words_of args.entry) }
 {
     if let Some(left) = after_keyword(&args, b"send") {
-        send(fabric, left)
-    } else if let Some(left) = after_keyword(&args, b"emit") {
-        at_end(fabric, AtEnd::Emit, left)
-    } else if let Some(left) = after_keyword(&args, b"deliver") {
-        deliver(fabric, left)
-    } else if let Some(left) = after_keyword(&args, b"provide") {
-        provide(fabric, left)
-    } else if let Some(left) = after_keyword(&args, b"restart") {
-        at_end(fabric, AtEnd::Restart, left)
-    } else if let Some(left) = after_keyword(&args, b"poll") {
-        at_end(fabric, AtEnd::Poll, left)
-    } else {
-        duo_by_word(fabric, args)
+        return send(fabric, left);
     }
+    if let Some(left) = after_keyword(&args, b"emit") {
+        return at_end(fabric, AtEnd::Emit, left);
+    }
+    if let Some(left) = after_keyword(&args, b"deliver") {
+        return deliver(fabric, left);
+    }
+    if let Some(left) = after_keyword(&args, b"provide") {
+        return provide(fabric, left);
+    }
+    if let Some(left) = after_keyword(&args, b"restart") {
+        return at_end(fabric, AtEnd::Restart, left);
+    }
+    if let Some(left) = after_keyword(&args, b"poll") {
+        return at_end(fabric, AtEnd::Poll, left);
+    }
+    duo_by_word(fabric, args)
 }
 
 // The same by the second word, wherever it ends.

@@ -27,12 +27,12 @@ pub(crate) fn plan(fabric: &Fabric, args: Words) -> Result<Command, FaultKind>
     ensures { result ≡ by_second fabric.now plan_kinds (words_of args.entry) }
 {
     if let Some(left) = after_keyword(&args, b"lose") {
-        plan_for(fabric, PlanKind::Lose, left)
-    } else if let Some(left) = after_keyword(&args, b"repeat") {
-        plan_for(fabric, PlanKind::Repeat, left)
-    } else {
-        plan_by_word(fabric, args)
+        return plan_for(fabric, PlanKind::Lose, left);
     }
+    if let Some(left) = after_keyword(&args, b"repeat") {
+        return plan_for(fabric, PlanKind::Repeat, left);
+    }
+    plan_by_word(fabric, args)
 }
 
 // The same by the second word, wherever it ends.
