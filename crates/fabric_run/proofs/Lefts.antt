@@ -9,7 +9,7 @@ use Rattle.fabric_file.specs.Reading.{fabric_reading}
 use Rattle.run_defs.specs.declared.command.Command.{Command}
 use Rattle.run_defs.specs.declared.command.Command.TheVariants.{Finish}
 use Rattle.run_defs.specs.Script.{command_of, is_end, ended, script_from, script_reading}
-use Rattle.fab_script.specs.Ranges.{IsCommandOf as IsSaid}
+use Rattle.fab_script.specs.Ranges.{IsCommandOf}
 use Rattle.run_bounds.proofs.Running.{runs-inject-few}
 use Rattle.input_texts.specs.Reading.{AcceptedText, input_limit, reading_from, reading}
 use Rattle.fabric_run.specs.Left.{InjectionsAreLeft}
@@ -95,6 +95,6 @@ module _ (text : List ℕ) (a : AcceptedText) (within : length text ≤ input_li
   pub injections-left : InjectionsAreLeft a
   injections-left k out last r =
       let o : IsOver a = is-over text a e in
-      let cost = runs-inject-few a.network (take k a.commands) out last o.fabric (all-take (IsSaid a.network) k a.commands o.said) r in
+      let cost = runs-inject-few a.network (take k a.commands) out last o.fabric (all-take (IsCommandOf a.network) k a.commands o.said) r in
       let some = take-few k a.commands in
       omega (arith, cost, some, few)

@@ -16,8 +16,8 @@ use Rattle.run_defs.specs.declared.line.MapWords.TheVariants.{Complete}
 use Rattle.run_defs.specs.Script.{script_reading}
 use Rattle.run_defs.specs.Deed.{session_after}
 use Rattle.run_defs.specs.Session.{SessionState}
-use Rattle.run_defs.specs.Headline.{IsCommandOf}
-use Rattle.fab_script.specs.Ranges.{IsCommandOf as IsSaid}
+use Rattle.run_defs.specs.Headline.{FitsFabric}
+use Rattle.fab_script.specs.Ranges.{IsCommandOf}
 use Rattle.fab_script.proofs.Ranged.{reading_ranged}
 use Rattle.run_laws.specs.Acts.{IsActOf}
 use Rattle.run_laws.proofs.Reaching.{run_is_reached}
@@ -41,7 +41,7 @@ use Rattle.fabric_run.proofs.Told.{lines-true}
 pub record IsOver (a : AcceptedText) : Type 0 where
   pub fabric : IsFabric a.network
   pub named : AreNamed a.network
-  pub said : AllByRecursion (IsSaid a.network) a.commands
+  pub said : AllByRecursion (IsCommandOf a.network) a.commands
 
 pub is-over : (text : List ℕ) (a : AcceptedText) → reading text ≡ Ok a → IsOver a
 is-over text a e = by (fabric_reading text) refl e
@@ -71,7 +71,7 @@ all-take P (suc k) (x ∷ xs) all = (all.0, all-take P k xs all.1)
 pub text-has_run : (text : List ℕ) (a : AcceptedText) → reading text ≡ Ok a → HasRun a.network a.commands
 text-has_run text a e =
     let o : IsOver a = is-over text a e in
-    run_exists a.network a.commands o.fabric (all-weaker (IsSaid a.network) (IsActOf a.network) a.commands (said-act a.network) o.said)
+    run_exists a.network a.commands o.fabric (all-weaker (IsCommandOf a.network) (IsActOf a.network) a.commands (said-act a.network) o.said)
 
 -- every accepted text keeps its promise
 pub text_promised : (text : List ℕ) (a : AcceptedText) → reading text ≡ Ok a → IsPromised a
@@ -79,12 +79,12 @@ text_promised text a e =
     let o : IsOver a = is-over text a e in
     let n : Network = a.network in
     let cs : List Command = a.commands in
-    let first : (k : ℕ) → AllByRecursion (IsSaid n) (take k cs) = λ k. all-take (IsSaid n) k cs o.said in
-    let acts : (k : ℕ) → AllByRecursion (IsActOf n) (take k cs) = λ k. all-weaker (IsSaid n) (IsActOf n) (take k cs) (said-act n) (first k) in
-    let says : (k : ℕ) (c : Command) → slice_get cs k ≡ Some c → IsSaid n c = λ k c at. all-nth (IsSaid n) cs k c o.said at in
+    let first : (k : ℕ) → AllByRecursion (IsCommandOf n) (take k cs) = λ k. all-take (IsCommandOf n) k cs o.said in
+    let acts : (k : ℕ) → AllByRecursion (IsActOf n) (take k cs) = λ k. all-weaker (IsCommandOf n) (IsActOf n) (take k cs) (said-act n) (first k) in
+    let says : (k : ℕ) (c : Command) → slice_get cs k ≡ Some c → IsCommandOf n c = λ k c at. all-nth (IsCommandOf n) cs k c o.said at in
     let after : (s : SessionState) (host : ℕ) (m : NetMap) (p : IsComplete a s host m) → IsPrintedAfter n (take p.is_next.count cs) host Complete m =
     λ s host m p. record {
-      over = all-weaker (IsSaid n) (IsCommandOf n) (take p.is_next.count cs) (said-command n) (first p.is_next.count);
+      over = all-weaker (IsCommandOf n) (FitsFabric n) (take p.is_next.count cs) (said-command n) (first p.is_next.count);
       out = p.is_next.printed;
       session = s;
       run = p.is_next.run;

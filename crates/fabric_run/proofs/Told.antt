@@ -33,10 +33,10 @@ use Rattle.run_defs.specs.Session.{SessionState}
 use Rattle.run_defs.specs.Run.{Does, IsRun, map_pieces}
 use Rattle.run_defs.proofs.Doing.{Doing, doing}
 use Rattle.run_defs.proofs.Doing.Doing.{determined, maps, circuits, routes}
-use Rattle.run_defs.specs.Headline.{IsCommandOf, HasPrinted}
+use Rattle.run_defs.specs.Headline.{FitsFabric, HasPrinted}
 use Rattle.map_canon.specs.Reading.{map_reading}
 use Rattle.fabric_file.specs.Reading.{AreNamed}
-use Rattle.fab_script.specs.Ranges.{IsCommandOf as IsSaid}
+use Rattle.fab_script.specs.Ranges.{IsCommandOf}
 use Rattle.run_laws.specs.Acts.{IsActOf}
 use Rattle.run_laws.proofs.Reaching.{run_is_reached}
 use Rattle.run_laws.proofs.RunsOnce.{runs-more}
@@ -102,7 +102,7 @@ abbrev output-of : Option Outcome → List Piece
 output-of None = []
 output-of (Some o) = o.output
 
-doubt-so : {s next : SessionState} {c : Command} {out : List Piece} → (n : Network) (host depth tries drowned asks packets : ℕ) (rest : List Piece) → IsCommandOf n c → IsSessionOf n s → c ≡ Map host depth tries → 1 ≤ tries
+doubt-so : {s next : SessionState} {c : Command} {out : List Piece} → (n : Network) (host depth tries drowned asks packets : ℕ) (rest : List Piece) → FitsFabric n c → IsSessionOf n s → c ≡ Map host depth tries → 1 ≤ tries
     → out ≡ OneLine (MapLine host (Doubtful drowned) asks packets) ∷ rest → next.world.injected < last_count → Doing s c out next → WasStruck s.world next.world
 doubt-so {s = s} {next = next} {out = out} n host depth tries drowned asks packets rest of_n session same some says_so left (determined e) = by (is_idle s.world.links) refl
   where
@@ -155,18 +155,18 @@ circuit-map n host depth asks m out same (whole j k growing kept is printed) =
     (j, subst (IsCircuitMap n host depth j) one is)
 circuit-map n host depth asks m out same (too_many_nodes j growing passed printed) = cc
 
-module _ (n : Network) (cs : List Command) (before : List Piece) (s : SessionState) (fabric : IsFabric n) (named : AreNamed n) (said : AllByRecursion (IsSaid n) cs) (ran : IsRun n cs before s) where
-  abbrev commands : AllByRecursion (IsCommandOf n) cs
-  commands = all-weaker (IsSaid n) (IsCommandOf n) cs (said-command n) said
+module _ (n : Network) (cs : List Command) (before : List Piece) (s : SessionState) (fabric : IsFabric n) (named : AreNamed n) (said : AllByRecursion (IsCommandOf n) cs) (ran : IsRun n cs before s) where
+  abbrev commands : AllByRecursion (FitsFabric n) cs
+  commands = all-weaker (IsCommandOf n) (FitsFabric n) cs (said-command n) said
 
   abbrev acts : AllByRecursion (IsActOf n) cs
-  acts = all-weaker (IsSaid n) (IsActOf n) cs (said-act n) said
+  acts = all-weaker (IsCommandOf n) (IsActOf n) cs (said-act n) said
 
   abbrev session : IsSessionOf n s
   session = run_keeps_world n cs before s fabric commands ran
 
   -- a map that is printed after the run
-  abbrev printed-after : (next : SessionState) (host depth tries : ℕ) (words : MapWords) (asks packets : ℕ) (m : NetMap) → IsSaid n (Map host depth tries)
+  abbrev printed-after : (next : SessionState) (host depth tries : ℕ) (words : MapWords) (asks packets : ℕ) (m : NetMap) → IsCommandOf n (Map host depth tries)
       → Does s (Map host depth tries) (OneLine (MapLine host words asks packets) ∷ MapLines m ∷ []) next → IsPrintedAfter n cs host words m
   printed-after next host depth tries words asks packets m is does = record {
     over = commands;
@@ -181,19 +181,19 @@ module _ (n : Network) (cs : List Command) (before : List Piece) (s : SessionSta
   }
 
   -- its lines are read as it
-  read-back : (next : SessionState) (c : Command) (printed : List Piece) (l : Line) (m : NetMap) → IsSaid n c → printed ≡ OneLine l ∷ MapLines m ∷ [] → Does s c printed next → map_reading n (map_text n m) ≡ Ok m
+  read-back : (next : SessionState) (c : Command) (printed : List Piece) (l : Line) (m : NetMap) → IsCommandOf n c → printed ≡ OneLine l ∷ MapLines m ∷ [] → Does s c printed next → map_reading n (map_text n m) ≡ Ok m
   read-back next c printed l m is same does =
-      (maps_of_runs_read_back n (cs ++ c ∷ []) (before ++ printed) next (before ++ OneLine l ∷ []) [] m fabric named (all-push (IsCommandOf n) cs c commands (said-command n c is)) (runs-more c printed ran does)
+      (maps_of_runs_read_back n (cs ++ c ∷ []) (before ++ printed) next (before ++ OneLine l ∷ []) [] m fabric named (all-push (FitsFabric n) cs c commands (said-command n c is)) (runs-more c printed ran does)
       (ap (λ o. before ++ o) same ∙ sym (append_assoc before (OneLine l ∷ []) (MapLines m ∷ [])))).read
 
   -- and a complete one was the mapper's part
-  part-true : (next : SessionState) (host depth tries asks packets : ℕ) (m : NetMap) → IsSaid n (Map host depth tries) → Does s (Map host depth tries) (OneLine (MapLine host Complete asks packets) ∷ MapLines m ∷ []) next
+  part-true : (next : SessionState) (host depth tries asks packets : ℕ) (m : NetMap) → IsCommandOf n (Map host depth tries) → Does s (Map host depth tries) (OneLine (MapLine host Complete asks packets) ∷ MapLines m ∷ []) next
       → IsMapOfPart (fabric_of s.world) host m
   part-true next host depth tries asks packets m is does =
       let a = mapping-of n cs host Complete m fabric (printed-after next host depth tries Complete asks packets m is does) in
       subst (λ k. IsMapOfPart k host m) a.fabric (made_map_is_right host a.depth a.tries a.before a.after a.journal m a.can a.mapped)
 
-  map-true : (next : SessionState) (host depth tries : ℕ) (printed : List Piece) (words : MapWords) (asks packets : ℕ) (m : NetMap) → IsSaid n (Map host depth tries) → Does s (Map host depth tries) printed next
+  map-true : (next : SessionState) (host depth tries : ℕ) (printed : List Piece) (words : MapWords) (asks packets : ℕ) (m : NetMap) → IsCommandOf n (Map host depth tries) → Does s (Map host depth tries) printed next
       → printed ≡ OneLine (MapLine host words asks packets) ∷ MapLines m ∷ [] → IsMapTrue n s next host words m
   map-true next host depth tries printed words asks packets m is does same =
       let out : MapWords → List Piece = λ w. OneLine (MapLine host w asks packets) ∷ MapLines m ∷ [] in
@@ -208,7 +208,7 @@ module _ (n : Network) (cs : List Command) (before : List Piece) (s : SessionSta
             doubt-so n host depth tries drowned asks packets (MapLines m ∷ []) (said-command n (Map host depth tries) is) session refl is.2.0 (same ∙ ap out e) left (doing does);
       }
 
-  map-told : (next : SessionState) (host depth tries : ℕ) (printed : List Piece) → IsSaid n (Map host depth tries) → Does s (Map host depth tries) printed next → IsMapTold n s next host depth printed
+  map-told : (next : SessionState) (host depth tries : ℕ) (printed : List Piece) → IsCommandOf n (Map host depth tries) → Does s (Map host depth tries) printed next → IsMapTold n s next host depth printed
   map-told next host depth tries printed is does = record {
     shown = λ words asks packets m same. map-true next host depth tries printed words asks packets m is does same;
     deep = λ quiet enough.
@@ -216,7 +216,7 @@ module _ (n : Network) (cs : List Command) (before : List Piece) (s : SessionSta
         (λ j m words made. (always_promised n cs fabric).deep before s host depth tries next.world j m words fabric commands ran (said-command n (Map host depth tries) is) made quiet is.2.0 is.2.1 enough) (doing does);
   }
 
-  circuit-right : (next : SessionState) (host depth : ℕ) (printed : List Piece) → IsSaid n (Circuit host depth) → Does s (Circuit host depth) printed next → IsCircuitRight n (fabric_of s.world) host depth printed
+  circuit-right : (next : SessionState) (host depth : ℕ) (printed : List Piece) → IsCommandOf n (Circuit host depth) → Does s (Circuit host depth) printed next → IsCircuitRight n (fabric_of s.world) host depth printed
   circuit-right next host depth printed is does =
       let now : Network = fabric_of s.world in
       let told : IsCircuitTold now host depth printed = circuit-so host depth (doing does) in
@@ -241,12 +241,12 @@ module _ (n : Network) (cs : List Command) (before : List Piece) (s : SessionSta
     unsure = λ t same. (duo_polls_are_right n cs before s next x t said ran).1 (subst (λ o. Does s (Duo (DuoPoll x)) o next) same does);
   }
 
-  plug-told : (next : SessionState) (p q : End) (printed : List Piece) → IsSaid n (Plug p q) → Does s (Plug p q) printed next → IsPlugTold s next p q printed
+  plug-told : (next : SessionState) (p q : End) (printed : List Piece) → IsCommandOf n (Plug p q) → Does s (Plug p q) printed next → IsPlugTold s next p q printed
   plug-told next p q printed is does =
-      let ports : IsSaid (fabric_of s.world) (Plug p q) = command-named n s (Plug p q) (session-vertices n s session) is in
+      let ports : IsCommandOf (fabric_of s.world) (Plug p q) = command-named n s (Plug p q) (session-vertices n s session) is in
       plug_line-true s next p q printed ports.0 ports.1 does
 
-  pub lines-true : (c : Command) (printed : List Piece) (next : SessionState) → IsSaid n c → Does s c printed next → AreLinesTrue n s c printed next
+  pub lines-true : (c : Command) (printed : List Piece) (next : SessionState) → IsCommandOf n c → Does s c printed next → AreLinesTrue n s c printed next
   lines-true (Map host depth tries) printed next is does = map-told next host depth tries printed is does
   lines-true (Circuit host depth) printed next is does = circuit-right next host depth printed is does
   lines-true Routes printed next is does = printed_routes_are_right n cs before printed s next fabric commands ran does

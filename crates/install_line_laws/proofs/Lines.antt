@@ -33,7 +33,7 @@ use Rattle.run_defs.proofs.Doing.{Doing, doing, does, acted-installation}
 use Rattle.run_defs.proofs.Doing.Doing.{determined, maps, circuits, routes}
 use Rattle.run_defs.proofs.ByKind.{IsLaw, by-kind, outcome-law}
 use Rattle.run_defs.specs.Run.Runs.{ended, goes_on}
-use Rattle.run_defs.specs.Headline.{IsCommandOf}
+use Rattle.run_defs.specs.Headline.{FitsFabric}
 use Rattle.act_defs.specs.Acts.{IsReached}
 use Rattle.cable_history.specs.History.{CableHistory, fabric_at}
 use Rattle.act_defs.proofs.Kept.{CablesKept}
@@ -133,7 +133,7 @@ kept-set h r l is e = let one : r ≡ l = cc in subst (IsSetOfMap h) one is
 session-hosts : (n : Network) (s : SessionState) → IsSessionOf n s → length s.world.links.cables.hosts ≡ length n.hosts
 session-hosts n s is = ap (λ (x : Network). length x.hosts) is.first
 
-command-of : (n : Network) (c : Command) → IsActOf n c → IsCommandOf n c
+command-of : (n : Network) (c : Command) → IsActOf n c → FitsFabric n c
 command-of n (Map host depth tries) is = is
 command-of n (Circuit host depth) is = is
 command-of n (Plan ahead kind) is = is.1

@@ -28,7 +28,7 @@ use Rattle.run_defs.specs.declared.line.ClientCall.{ClientCall}
 use Rattle.run_defs.specs.declared.line.ClientCall.TheVariants.{Poll, Tokens as TokensCall}
 use Rattle.run_defs.specs.declared.line.Line.{Line}
 use Rattle.run_defs.specs.declared.line.Line.TheVariants.{Client, Tokens as TokensLine}
-use Rattle.run_defs.specs.Headline.{IsCommandOf as IsMappedOf}
+use Rattle.run_defs.specs.Headline.{FitsFabric}
 use Rattle.run_defs.specs.Outcome.{places, token_lines}
 use Rattle.run_defs.specs.Output.{Piece, OneLine, lines}
 use Rattle.run_defs.specs.Run.{Does, IsRun}
@@ -115,7 +115,7 @@ module _ (n : Network) (front : List Command) (done : List Piece) (before : List
   at = record { host = h; port = port }
 
   session : IsSessionOf n s
-  session = run_keeps_world n front done s f (all-weaker (IsCommandOf n) (IsMappedOf n) front (said-command n) all) run
+  session = run_keeps_world n front done s f (all-weaker (IsCommandOf n) (FitsFabric n) front (said-command n) all) run
 
   reached : IsReached n s.world
   reached = run_is_reached n front done s f (all-weaker (IsCommandOf n) (IsActOf n) front (said-act n) all) run

@@ -40,7 +40,7 @@ use Rattle.run_defs.specs.Outcome.{event_of, is_done, words_of_plug, revocations
 use Rattle.run_defs.specs.Run.{Does, IsRun}
 use Rattle.run_defs.proofs.Doing.{Doing, doing, does, acted-revocations}
 use Rattle.run_defs.proofs.Doing.Doing.{determined, maps, circuits, routes}
-use Rattle.run_defs.specs.Headline.{IsCommandOf as IsMappedOf}
+use Rattle.run_defs.specs.Headline.{FitsFabric}
 use Rattle.fab_script.specs.Ranges.{IsHost, IsEnd, IsCommandOf}
 use Rattle.answer_defs.specs.Answer.{Answered}
 use Rattle.judge_laws.specs.Lines.{IsCounted}
@@ -136,19 +136,19 @@ outcome-answered n before s Revoke f is holds told of_n kind =
 outcome-answered n before s Broken f is holds told of_n kind = broken-answered n before s told s.world.adopted refl holds.adopted
 
 -- a map that a command prints after a run is read again
-module _ (n : Network) (commands : List Command) (out : List Piece) (s : SessionState) (f : IsFabric n) (good : AreNamed n) (all : AllByRecursion (IsMappedOf n) commands) (r : IsRun n commands out s) where
-  map-back : (c : Command) (next : SessionState) (printed before behind : List Piece) (m : NetMap) → IsMappedOf n c → Does s c printed next → printed ≡ before ++ MapLines m ∷ behind → map_reading n (map_text n m) ≡ Ok m
+module _ (n : Network) (commands : List Command) (out : List Piece) (s : SessionState) (f : IsFabric n) (good : AreNamed n) (all : AllByRecursion (FitsFabric n) commands) (r : IsRun n commands out s) where
+  map-back : (c : Command) (next : SessionState) (printed before behind : List Piece) (m : NetMap) → FitsFabric n c → Does s c printed next → printed ≡ before ++ MapLines m ∷ behind → map_reading n (map_text n m) ≡ Ok m
   map-back c next printed before behind m of_n d e =
-      (maps_of_runs_read_back n (commands ++ c ∷ []) (out ++ printed) next (out ++ before) behind m f good (all-join (IsMappedOf n) commands (c ∷ []) all (of_n, tt)) (runs-more c printed r d)
+      (maps_of_runs_read_back n (commands ++ c ∷ []) (out ++ printed) next (out ++ before) behind m f good (all-join (FitsFabric n) commands (c ∷ []) all (of_n, tt)) (runs-more c printed r d)
       (ap (λ l. out ++ l) e ∙ sym (append_assoc out before (MapLines m ∷ behind)))).read
 
 does-answered : {s next : SessionState} {c : Command} {printed : List Piece} → (n : Network) (commands : List Command) (out : List Piece) (before : List Answered) → IsFabric n → AreNamed n → AllByRecursion (IsCommandOf n) commands → IsCommandOf n c → IsRun n commands out s
     → IsToldOf n before s → Doing s c printed next → is_of_network c ≡ true → IsAnsweredBy n before s c printed next
 does-answered {s = s} {c = c} n commands out before f good all of_n r told (determined e) kind =
-    let over = all-weaker (IsCommandOf n) (IsMappedOf n) commands (said-command n) all in
+    let over = all-weaker (IsCommandOf n) (FitsFabric n) commands (said-command n) all in
     subst (AnsweredIn n before s c) e (outcome-answered n before s c f (run_keeps_world n commands out s f over r) (run-fine n commands out s f over r) told of_n kind)
 does-answered {s = s} {next = next} {printed = printed} n commands out before f good all of_n r told (maps {host = host} {depth = depth} {tries = tries} after j m words idle made is left) kind =
-    let over = all-weaker (IsCommandOf n) (IsMappedOf n) commands (said-command n) all in
+    let over = all-weaker (IsCommandOf n) (FitsFabric n) commands (said-command n) all in
     let can = can-map-now n s host depth tries (said-command n (Map host depth tries) of_n) (run_keeps_world n commands out s f over r) idle in
     let same = (mapping_keeps host depth tries s.world after j m words can made).0.adopted in
     let line = OneLine (MapLine host words (length j) (after.injected - s.world.injected)) in
@@ -158,13 +158,13 @@ does-answered {s = s} {next = next} {printed = printed} n commands out before f 
     (λ says. made_map_is_right host depth tries s.world after j m can (subst (IsMapped host depth tries s.world after j m) says made)) same
     (λ still. subst (Still s.world) (sym made.led) (asks-still s.world.links.cables.changes host tries (map (λ (x : Entry). x.walk) j) s.world still)) is)
 does-answered {s = s} {next = next} {printed = printed} n commands out before f good all of_n r told (circuits {host = host} {depth = depth} is left) kind =
-    let over = all-weaker (IsCommandOf n) (IsMappedOf n) commands (said-command n) all in
+    let over = all-weaker (IsCommandOf n) (FitsFabric n) commands (said-command n) all in
     let most = of_n.1.1 in
     subst (IsAnsweredBy n before s (Circuit host depth) printed) (sym left)
     (circuit-answered n before s told (fabric_of s.world) host depth printed of_n.0 (omega arith)
     (λ m l e. map-back n commands out s f good over r (Circuit host depth) next printed (OneLine l ∷ []) [] m (said-command n (Circuit host depth) of_n) (does (circuits is left)) e) is)
 does-answered {s = s} {next = next} {printed = printed} n commands out before f good all of_n r told (routes l found complete are is left) kind =
-    let over = all-weaker (IsCommandOf n) (IsMappedOf n) commands (said-command n) all in
+    let over = all-weaker (IsCommandOf n) (FitsFabric n) commands (said-command n) all in
     let session = run_keeps_world n commands out s f over r in
     let holds = run-fine n commands out s f over r in
     let fine = routes-fine n s l found f session (run_holds_right n commands out s f over r) holds complete are in

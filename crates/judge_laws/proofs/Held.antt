@@ -23,7 +23,7 @@ use Rattle.run_defs.specs.Run.{Runs, IsRun, hosts_by_address}
 use Rattle.run_defs.proofs.Doing.{Doing, doing}
 use Rattle.run_defs.proofs.Doing.Doing.{determined, maps, circuits, routes}
 use Rattle.run_defs.specs.Run.Runs.{ended, goes_on}
-use Rattle.run_defs.specs.Headline.{IsCommandOf}
+use Rattle.run_defs.specs.Headline.{FitsFabric}
 use Rattle.mapping_laws.specs.Runs.{IsSessionOf}
 use Rattle.mapping_laws.specs.Held.{HoldsRight}
 use Rattle.mapping_laws.proofs.Made.{mapping_keeps}
@@ -152,7 +152,7 @@ routes-fine n s l found f is right h complete are =
       rising = are.in_order;
     }
 
-fine-so : {s next : SessionState} {c : Command} {out : List Piece} → (n : Network) → IsFabric n → IsCommandOf n c → IsSessionOf n s → HoldsRight s → HoldsFine n s → Doing s c out next → HoldsFine n next
+fine-so : {s next : SessionState} {c : Command} {out : List Piece} → (n : Network) → IsFabric n → FitsFabric n c → IsSessionOf n s → HoldsRight s → HoldsFine n s → Doing s c out next → HoldsFine n next
 fine-so {s = s} {next = next} {c = c} {out = out} n f of_n is right h (determined e) = held-fine n s next (outcome-held s c (record { output = out; after = next }) e) h
 fine-so {s = s} {next = next} n f of_n is right h (maps {host = host} {depth = depth} {tries = tries} after j m words idle made printed left) =
     let can = can-map-now n s host depth tries of_n is idle in
@@ -175,11 +175,11 @@ fine-so {s = s} n f of_n is right h (routes l found complete are printed left) =
       adopted = h.adopted;
     })
 
-runs-fine : {s last : SessionState} {cs : List Command} {out : List Piece} → (n : Network) → IsFabric n → AllByRecursion (IsCommandOf n) cs → IsSessionOf n s → HoldsRight s → HoldsFine n s → Runs s cs out last → HoldsFine n last
+runs-fine : {s last : SessionState} {cs : List Command} {out : List Piece} → (n : Network) → IsFabric n → AllByRecursion (FitsFabric n) cs → IsSessionOf n s → HoldsRight s → HoldsFine n s → Runs s cs out last → HoldsFine n last
 runs-fine n f all is right h ended = h
 runs-fine n f all is right h (goes_on d r e) = runs-fine n f all.1 (does-stays n all.0 is d) (does-hold n all.0 is right d) (fine-so n f all.0 is right h (doing d)) r
 
 -- so it is after every run
-pub run-fine : (n : Network) (commands : List Command) (out : List Piece) (s : SessionState) → IsFabric n → AllByRecursion (IsCommandOf n) commands → IsRun n commands out s → HoldsFine n s
+pub run-fine : (n : Network) (commands : List Command) (out : List Piece) (s : SessionState) → IsFabric n → AllByRecursion (FitsFabric n) commands → IsRun n commands out s → HoldsFine n s
 run-fine n commands out s f all r =
     runs-fine n f all (new-session n f) (new-holds n) (record { map = λ l e. cc; hosts = λ l e. cc; routes = λ l e. cc; adopted = λ a e. cc }) r

@@ -19,7 +19,7 @@ use Rattle.growth_laws.proofs.Keeping.{Keeps, keeps-append, asked-kept, has_expa
 use Rattle.growth_laws.proofs.Asks.{growing-once, switch-node, expanded-has}
 use Rattle.growth_laws.proofs.Few.{asks_are_few}
 use Rattle.class_joins.specs.Table.{StandsFor}
-use Rattle.mapper.specs.Growths.{HasGrown, IsUnderWay, ExpandsOrFills, IsNextOpen, AreExpanded, IsSettled, IsWhole}
+use Rattle.mapper.specs.Growths.{HasGrown, IsUnderWay, ExpandsOrFills, IsNextOpen, AreExpanded, IsSwept, IsWhole}
 use Rattle.mapper.specs.Growths.ExpandsOrFills.{expands, fills}
 use Rattle.mapper.specs.declared.tree.Tree.{Tree}
 use Rattle.mapper.proofs.Rising.{rising}
@@ -79,7 +79,7 @@ shorter v w e = by (below-parts v w e)
     by (inl l) = omega arith
     by (inr p) = let q = p.0 in omega arith
 
-module _ (t : Tree) (next : ℕ) (settled : IsSettled t next) where
+module _ (t : Tree) (next : ℕ) (settled : IsSwept t next) where
   -- the entry at the next open place is the node that is chosen
   pub open-chosen : (place : ℕ) → IsNextOpen t.journal.host t.depth t.journal.entries next place → (w : List ℤ) (e : Entry) → slice_get t.journal.entries place ≡ Some e → e.walk ≡ w → IsChosen t.journal.host t.depth t.journal.entries w
   open-chosen place o w e at is = subst (IsChosen host depth j) (ap (λ (x : Entry). x.walk) one ∙ is) (record {
@@ -133,7 +133,7 @@ module _ (t : Tree) (next : ℕ) (settled : IsSettled t next) where
 
   -- once the node at the next open place is expanded, the tree is settled up to the next place
   module _ (S : Type 0) (asked : S → List ℤ → Answer → S → Type 0) (n : Network) (new : Tree) (before after : S) (lost now : ℕ) (g : HasGrown S asked n t before lost new after now) where
-    pub open-settled : (place : ℕ) → IsNextOpen t.journal.host t.depth t.journal.entries next place → (w : List ℤ) (e : Entry) → slice_get t.journal.entries place ≡ Some e → e.walk ≡ w → IsUnderWay new → IsAtRest new.journal.entries → IsExpanded new.journal.entries w → IsSettled new (place + 1)
+    pub open-settled : (place : ℕ) → IsNextOpen t.journal.host t.depth t.journal.entries next place → (w : List ℤ) (e : Entry) → slice_get t.journal.entries place ≡ Some e → e.walk ≡ w → IsUnderWay new → IsAtRest new.journal.entries → IsExpanded new.journal.entries w → IsSwept new (place + 1)
     open-settled place o w e at is under rest x = record {
       under_way = under;
       rest = rest;
@@ -193,7 +193,7 @@ module _ (t : Tree) (next : ℕ) (settled : IsSettled t next) where
 pub short-journal : (host depth : ℕ) (j : List Entry) → IsGrowing host depth j → length (nodes j) ≤ node_limit → length j < 4294967295
 short-journal host depth j g l = let few = asks_are_few host depth j g in omega arith
 
-pub short-settled : (t : Tree) (next : ℕ) → IsSettled t next → length t.journal.entries < 4294967295
+pub short-settled : (t : Tree) (next : ℕ) → IsSwept t next → length t.journal.entries < 4294967295
 short-settled t next s = short-journal t.journal.host t.depth t.journal.entries s.under_way.growing (let a = s.under_way.counted in let b = s.under_way.kept in omega arith)
 
 -- an answer of this value
@@ -201,8 +201,8 @@ abbrev Gives : Result Bool AllocError → Bool → Type 0
 Gives r b = r ≡ Ok b
 
 -- what the test of the limit says after a node was expanded
-module _ (S : Type 0) (asked : S → List ℤ → Answer → S → Type 0) (n : Network) (t : Tree) (next : ℕ) (settled : IsSettled t next) (new : Tree) (before after : S) (lost now : ℕ) (g : HasGrown S asked n t before lost new after now) where
-  pub goes-settled : (place : ℕ) → IsNextOpen t.journal.host t.depth t.journal.entries next place → (w : List ℤ) (e : Entry) → slice_get t.journal.entries place ≡ Some e → e.walk ≡ w → ExpandsOrFills new w → Gives (Ok (nat_le new.nodes 65536)) true → IsSettled new (place + 1)
+module _ (S : Type 0) (asked : S → List ℤ → Answer → S → Type 0) (n : Network) (t : Tree) (next : ℕ) (settled : IsSwept t next) (new : Tree) (before after : S) (lost now : ℕ) (g : HasGrown S asked n t before lost new after now) where
+  pub goes-settled : (place : ℕ) → IsNextOpen t.journal.host t.depth t.journal.entries next place → (w : List ℤ) (e : Entry) → slice_get t.journal.entries place ≡ Some e → e.walk ≡ w → ExpandsOrFills new w → Gives (Ok (nat_le new.nodes 65536)) true → IsSwept new (place + 1)
   goes-settled place o w e at is (expands u r x) ok = open-settled t next settled S asked n new before after lost now g place o w e at is u r x
   goes-settled place o w e at is (fills s c l) ok = absurd (let few : new.nodes ≤ 65536 = within ok in let p = l.passed in omega arith)
     where

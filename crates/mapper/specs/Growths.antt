@@ -128,7 +128,7 @@ pub record IsNextOpen (host depth : ℕ) (j : List Entry) (from place : ℕ) : T
   pub first : AreExpanded host depth j from place
 
 -- A tree at rest, of which no entry before a place is to be expanded.
-pub record IsSettled (t : Tree) (next : ℕ) : Type 0 where
+pub record IsSwept (t : Tree) (next : ℕ) : Type 0 where
   pub under_way : IsUnderWay t
   pub rest : IsAtRest t.journal.entries
   pub started : is_asked t.journal.entries [] ≡ true
@@ -160,7 +160,7 @@ pub record IsStarted (S : Type 0) (asked : S → List ℤ → Answer → S
     → Type 0) (n : Network) (host depth : ℕ) (before : S) (lost : ℕ) (t : Tree) (after : S) (now : ℕ) : Type 0 where
   pub at_host : t.journal.host ≡ host
   pub to_depth : t.depth ≡ depth
-  pub settled : IsSettled t 0
+  pub settled : IsSwept t 0
   pub grown : GrowsBy S asked n host depth [] before lost t.journal.entries after now
 
 -- A tree that has grown to its depth, for which the prober was asked.

@@ -2,7 +2,7 @@
 
 ghost use Rattle.std.specs.Prelude.{◌≡◌, ◌<◌, ◌≤◌, true, false, length, All, IfOk, OnOk, OnErr, Ok};
 ghost use Rattle.net_defs.specs.Turn.{IsTurn};
-ghost use Rattle.mapper.specs.Growths.{HasGrown, StopsShort, IsToldOf, IsNextOpen, IsSettled, IsWhole, IsWalkAt};
+ghost use Rattle.mapper.specs.Growths.{HasGrown, StopsShort, IsToldOf, IsNextOpen, IsSwept, IsWhole, IsWalkAt};
 
 use crate::expanding::expand;
 use crate::opening::next_open;
@@ -21,10 +21,10 @@ pub(crate) fn expand_next<P: Prober>(
     requires mapper { tree.old.journal.host ≡ P.mapper p.old }
     requires shallow { tree.old.depth ≤ 32 }
     requires told { IsToldOf (P.fabric p.old) (P.mapper p.old) tree.old.journal.entries }
-    requires settled { IsSettled tree.old next.old }
+    requires settled { IsSwept tree.old next.old }
     ensures grown { OnOk result (HasGrown P.State P.asked (P.fabric p.old) tree.old (P.state p.old)
         (P.lost p.old) tree.new (P.state p.new) (P.lost p.new)) }
-    ensures goes_on { result ≡ Ok true → IsSettled tree.new next.new }
+    ensures goes_on { result ≡ Ok true → IsSwept tree.new next.new }
     ensures rises { result ≡ Ok true → next.old < next.new }
     ensures ends { result ≡ Ok false → IsWhole tree.new }
     ensures stopped { OnErr result
@@ -53,11 +53,11 @@ fn expand_at<P: Prober>(
     requires mapper { tree.old.journal.host ≡ P.mapper p.old }
     requires shallow { tree.old.depth ≤ 32 }
     requires told { IsToldOf (P.fabric p.old) (P.mapper p.old) tree.old.journal.entries }
-    requires settled { IsSettled tree.old next.old }
+    requires settled { IsSwept tree.old next.old }
     requires is_next { IsNextOpen tree.old.journal.host tree.old.depth tree.old.journal.entries next.old place }
     ensures grown { OnOk result (HasGrown P.State P.asked (P.fabric p.old) tree.old (P.state p.old)
         (P.lost p.old) tree.new (P.state p.new) (P.lost p.new)) }
-    ensures goes_on { result ≡ Ok true → IsSettled tree.new next.new }
+    ensures goes_on { result ≡ Ok true → IsSwept tree.new next.new }
     ensures rises { result ≡ Ok true → next.old < next.new }
     ensures ends { result ≡ Ok false → IsWhole tree.new }
     ensures stopped { OnErr result

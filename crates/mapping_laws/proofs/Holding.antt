@@ -31,7 +31,7 @@ use Rattle.run_defs.proofs.Doing.{Doing, doing, does}
 use Rattle.run_defs.proofs.Doing.Doing.{determined, maps, circuits, routes}
 use Rattle.run_defs.proofs.ByKind.{IsLaw, by-kind, outcome-law}
 use Rattle.run_defs.specs.Run.Runs.{ended, goes_on}
-use Rattle.run_defs.specs.Headline.{IsCommandOf}
+use Rattle.run_defs.specs.Headline.{FitsFabric}
 use Rattle.mapping_laws.specs.Runs.{IsSessionOf}
 use Rattle.mapping_laws.specs.Held.{IsRightMap, WasRightMap, WereRightRoutes, HoldsRight, RunHoldsRight}
 use Rattle.mapping_laws.proofs.Made.{mapping_keeps, made_map_is_map, made_map_is_right, made_map_is_connected}
@@ -138,7 +138,7 @@ map-now w v r is k e right =
     let high : w.links.cables.changes ≤ r.began = omega (arith, e) in
     map-past w v r k (record { past = low; right = subst (λ n. IsRightMap n r) (sym (last_is_now w.links.cables r.began is high)) right })
 
-holds-so : {s next : SessionState} {c : Command} {out : List Piece} → (n : Network) → IsCommandOf n c → IsSessionOf n s → HoldsRight s → Doing s c out next → HoldsRight next
+holds-so : {s next : SessionState} {c : Command} {out : List Piece} → (n : Network) → FitsFabric n c → IsSessionOf n s → HoldsRight s → Doing s c out next → HoldsRight next
 holds-so {s = s} {next = next} {c = c} {out = out} n of_n is h (determined e) = held-right s next (does-keep {s = s} {next = next} {c = c} n of_n (does (determined e))).cables (outcome-held s c (record { output = out; after = next }) e) h
 holds-so {s = s} {next = next} n of_n is h (maps {host = host} {depth = depth} {tries = tries} after j m words idle made printed left) =
     let can = can-map-now n s host depth tries of_n is idle in
@@ -161,10 +161,10 @@ holds-so {s = s} {next = next} n of_n is h (routes l found complete are printed 
     let right = routes_of_a_right_map_are_right past l.mapper l.made (order_of l.made) found (is.history.fabrics l.began) k.right.rules k.right.right (places_are_an_order l.made) are in
     subst HoldsRight (sym left) (record { complete = h.complete; routes = λ x e. kept-routes s.world.links.cables _ x (record { past = k.past; right = right }) e; adopted = h.adopted })
 
-pub does-hold : {s next : SessionState} {c : Command} {out : List Piece} → (n : Network) → IsCommandOf n c → IsSessionOf n s → HoldsRight s → Does s c out next → HoldsRight next
+pub does-hold : {s next : SessionState} {c : Command} {out : List Piece} → (n : Network) → FitsFabric n c → IsSessionOf n s → HoldsRight s → Does s c out next → HoldsRight next
 does-hold n of_n is h d = holds-so n of_n is h (doing d)
 
-runs-hold : {s last : SessionState} {cs : List Command} {out : List Piece} → (n : Network) → AllByRecursion (IsCommandOf n) cs → IsSessionOf n s → HoldsRight s → Runs s cs out last → HoldsRight last
+runs-hold : {s last : SessionState} {cs : List Command} {out : List Piece} → (n : Network) → AllByRecursion (FitsFabric n) cs → IsSessionOf n s → HoldsRight s → Runs s cs out last → HoldsRight last
 runs-hold n all is h ended = h
 runs-hold n all is h (goes_on d r e) = runs-hold n all.1 (does-stays n all.0 is d) (does-hold n all.0 is h d) r
 

@@ -33,7 +33,7 @@ use Rattle.run_defs.proofs.Doing.{doing, Doing}
 use Rattle.run_defs.proofs.Doing.Doing.{determined, maps, circuits, routes}
 use Rattle.run_defs.proofs.ByKind.{InDeed, refused-map, refused-routes, by-event, by-install, outcome-law}
 use Rattle.run_defs.specs.Run.Runs.{ended, goes_on}
-use Rattle.run_defs.specs.Headline.{IsCommandOf, WasTrue}
+use Rattle.run_defs.specs.Headline.{FitsFabric, WasTrue}
 use Rattle.circ_defs.specs.CircuitMap.{IsCircuitMap}
 use Rattle.circ_map_laws.proofs.Numbering.{circuit_map_is_core}
 use Rattle.mapping_laws.specs.Runs.{IsSessionOf, CompleteMapsAreTrue, DeepMapsAreComplete}
@@ -129,7 +129,7 @@ circuit-prints : (n : Network) (host depth : ℕ) (out : List Piece) → IsCircu
 circuit-prints n host depth out (whole j m growing kept is printed) = headed (CircuitLine host depth (length j)) (OfCircuit host depth (length j)) m refl refl (whole j m growing kept is refl) printed
 circuit-prints n host depth out (too_many_nodes j growing passed printed) = plain (subst (AllByRecursion IsOtherPiece) (sym printed) (refl, tt))
 
-prints-so : {s next : SessionState} {c : Command} {out : List Piece} → (n : Network) → IsCommandOf n c → IsSessionOf n s → Doing s c out next → Prints (fabric_of s.world) c out
+prints-so : {s next : SessionState} {c : Command} {out : List Piece} → (n : Network) → FitsFabric n c → IsSessionOf n s → Doing s c out next → Prints (fabric_of s.world) c out
 prints-so {s = s} {next = next} {c = c} {out = out} n of_n is (determined e) = plain (outcome-law (λ o. AllByRecursion IsOtherPiece o.output) s c (record { output = out; after = next }) (deed-other s c) e)
 prints-so {s = s} n of_n is (maps {host = host} {depth = depth} {tries = tries} after j m words idle made printed left) =
     let can = can-map-now n s host depth tries of_n is idle in
@@ -138,7 +138,7 @@ prints-so {s = s} n of_n is (maps {host = host} {depth = depth} {tries = tries} 
 prints-so {s = s} {out = out} n of_n is (circuits {host = host} {depth = depth} told left) = circuit-prints (fabric_of s.world) host depth out told
 prints-so {s = s} n of_n is (routes l found complete are printed left) = plain (subst (AllByRecursion IsOtherPiece) (sym printed) (routes-other l.made found))
 
-does-print : {s next : SessionState} {c : Command} {out : List Piece} → (n : Network) → IsCommandOf n c → IsSessionOf n s → Does s c out next → Prints (fabric_of s.world) c out
+does-print : {s next : SessionState} {c : Command} {out : List Piece} → (n : Network) → FitsFabric n c → IsSessionOf n s → Does s c out next → Prints (fabric_of s.world) c out
 does-print n of_n is d = prints-so n of_n is (doing d)
 
 -- where a piece of two outputs in a row stands: in the first or in the second
@@ -220,7 +220,7 @@ record IsMaker (n : Network) (s : SessionState) (cs : List Command) (before : Li
 same-map : (m k : NetMap) (xs ys : List Piece) → MapLines m ∷ xs ≡ MapLines k ∷ ys → m ≡ k
 same-map m k xs ys e = cc
 
-maker : {s last : SessionState} {cs : List Command} {out : List Piece} → (n : Network) → AllByRecursion (IsCommandOf n) cs → IsSessionOf n s → Runs s cs out last
+maker : {s last : SessionState} {cs : List Command} {out : List Piece} → (n : Network) → AllByRecursion (FitsFabric n) cs → IsSessionOf n s → Runs s cs out last
     → (before : List Piece) (l : Line) (h : Heading) (m : NetMap) (behind : List Piece) → heading_in l ≡ Some h → out ≡ before ++ OneLine l ∷ MapLines m ∷ behind → IsMaker n s cs before h m
 maker n all is ended before l h m behind head e = absurd (nothing before e)
   where

@@ -24,7 +24,7 @@ use Rattle.run_defs.proofs.Doing.{does-world}
 use Rattle.run_defs.proofs.ByKind.{InDeed, IsLaw, by-kind}
 use Rattle.run_defs.specs.Run.Runs.{ended, goes_on}
 use Rattle.mapping_laws.specs.Laws.{CanMap}
-use Rattle.run_defs.specs.Headline.{IsCommandOf}
+use Rattle.run_defs.specs.Headline.{FitsFabric}
 use Rattle.mapping_laws.specs.Runs.{IsSessionOf, RunKeepsWorld}
 use Rattle.install_laws.proofs.Worlds.{Stays, stays-same, stays-both, stays-event, stays-plan, stays-adopted, stays-asked}
 
@@ -56,7 +56,7 @@ abbrev IsPlannedKind : Kind → Type 0
 IsPlannedKind (Planning ahead fault) = IsByteFault fault
 IsPlannedKind _ = Unit {0}
 
-planned-kind : (n : Network) (c : Command) → IsCommandOf n c → IsPlannedKind (kind_of c)
+planned-kind : (n : Network) (c : Command) → FitsFabric n c → IsPlannedKind (kind_of c)
 planned-kind n (Plan ahead kind) of_n = of_n
 planned-kind n c of_n = tt
 
@@ -69,7 +69,7 @@ planned-law s k of_k = record {
   restarts = λ e is. tt;
 }
 
-deed-planned : {s : SessionState} {c : Command} {d : Deed} → (n : Network) → IsCommandOf n c → IsDeed s c d → ArePlanned d
+deed-planned : {s : SessionState} {c : Command} {d : Deed} → (n : Network) → FitsFabric n c → IsDeed s c d → ArePlanned d
 deed-planned {s = s} {c = c} n of_n (determined e) = subst (InDeed ArePlanned) e (by-kind ArePlanned s (kind_of c) (planned-law s (kind_of c) (planned-kind n c of_n)))
 deed-planned {s = s} n of_n (maps {host = host} {tries = tries} after j m words idle made is) = subst ArePlanned (sym is) (events-planned (asks_of host tries j s.world).events)
 deed-planned n of_n (circuits out told is) = subst ArePlanned (sym is) tt
@@ -98,16 +98,16 @@ can-map n s host depth there low is idle = record {
   shallow = low;
 }
 
-pub can-map-now : (n : Network) (s : SessionState) (host depth tries : ℕ) → IsCommandOf n (Map host depth tries) → IsSessionOf n s → is_idle s.world.links ≡ true → CanMap host depth s.world
+pub can-map-now : (n : Network) (s : SessionState) (host depth tries : ℕ) → FitsFabric n (Map host depth tries) → IsSessionOf n s → is_idle s.world.links ≡ true → CanMap host depth s.world
 can-map-now n s host depth tries of_n is idle = can-map n s host depth of_n.0 of_n.1 is idle
 
-pub does-keep : {s next : SessionState} {c : Command} {out : List Piece} → (n : Network) → IsCommandOf n c → Does s c out next → Stays s.world next.world
+pub does-keep : {s next : SessionState} {c : Command} {out : List Piece} → (n : Network) → FitsFabric n c → Does s c out next → Stays s.world next.world
 does-keep {s = s} n of_n d = subst (Stays s.world) (sym (does-world d)) (stays-acts s.world d.deed.acts (deed-planned n of_n d.is))
 
-pub does-stays : {s next : SessionState} {c : Command} {out : List Piece} → (n : Network) → IsCommandOf n c → IsSessionOf n s → Does s c out next → IsSessionOf n next
+pub does-stays : {s next : SessionState} {c : Command} {out : List Piece} → (n : Network) → FitsFabric n c → IsSessionOf n s → Does s c out next → IsSessionOf n next
 does-stays {s = s} {next = next} n of_n is d = session-stays n s next (does-keep n of_n d) is
 
-runs-stay : {s last : SessionState} {cs : List Command} {out : List Piece} → (n : Network) → AllByRecursion (IsCommandOf n) cs → IsSessionOf n s → Runs s cs out last → IsSessionOf n last
+runs-stay : {s last : SessionState} {cs : List Command} {out : List Piece} → (n : Network) → AllByRecursion (FitsFabric n) cs → IsSessionOf n s → Runs s cs out last → IsSessionOf n last
 runs-stay n all is ended = is
 runs-stay n all is (goes_on d r e) = runs-stay n all.1 (does-stays n all.0 is d) r
 

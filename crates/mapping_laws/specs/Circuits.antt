@@ -14,7 +14,7 @@ use Rattle.run_defs.specs.Circuit.{IsCircuitTold}
 use Rattle.run_defs.specs.Output.{Piece, OneLine, MapLines}
 use Rattle.run_defs.specs.Session.{SessionState}
 use Rattle.run_defs.specs.Run.{IsRun}
-use Rattle.run_defs.specs.Headline.{IsCommandOf, IsDoneAfter}
+use Rattle.run_defs.specs.Headline.{FitsFabric, IsDoneAfter}
 
 -- a run printed a map of circuit links, asked from a host to a depth by so many asks
 pub record HasPrintedCircuit (out : List Piece) (host depth asks : ℕ) (m : NetMap) : Type 0 where
@@ -37,7 +37,7 @@ pub record WasTold (n : Network) (commands : List Command) (before : List Piece)
 abbrev pub CircuitMapsAreTrue : Type 0
 CircuitMapsAreTrue =
     (n : Network) (commands : List Command) (out : List Piece) (last : SessionState) (host depth asks : ℕ) (m : NetMap)
-    → IsFabric n → AllByRecursion (IsCommandOf n) commands → IsRun n commands out last
+    → IsFabric n → AllByRecursion (FitsFabric n) commands → IsRun n commands out last
     → (printed : HasPrintedCircuit out host depth asks m) → WasTold n commands printed.before host depth asks m
 
 -- What is reported of the circuit links of a fabric, asked from a host to a depth.

@@ -12,7 +12,7 @@ use Rattle.run_defs.specs.declared.command.Command.{Command}
 use Rattle.run_defs.specs.Output.{Piece}
 use Rattle.run_defs.specs.Session.{SessionState, LastMap, LastRoutes, complete_map}
 use Rattle.run_defs.specs.Run.{IsRun}
-use Rattle.run_defs.specs.Headline.{IsCommandOf}
+use Rattle.run_defs.specs.Headline.{FitsFabric}
 
 -- A map that is kept: it keeps the rules of maps, is its mapper's part of the fabric, and is connected.
 pub record IsRightMap (n : Network) (l : LastMap) : Type 0 where
@@ -43,4 +43,4 @@ pub record HoldsRight (s : SessionState) : Type 0 where
 -- every run of such commands ends in such a session
 abbrev pub RunHoldsRight : Type 0
 RunHoldsRight = (n : Network) (commands : List Command) (out : List Piece) (last : SessionState) → IsFabric n
-    → AllByRecursion (IsCommandOf n) commands → IsRun n commands out last → HoldsRight last
+    → AllByRecursion (FitsFabric n) commands → IsRun n commands out last → HoldsRight last

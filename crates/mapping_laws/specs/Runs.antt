@@ -10,7 +10,7 @@ use Rattle.run_defs.specs.declared.command.Command.{Command}
 use Rattle.run_defs.specs.Output.{Piece}
 use Rattle.run_defs.specs.Session.{SessionState}
 use Rattle.run_defs.specs.Run.{IsRun}
-use Rattle.run_defs.specs.Headline.{IsCommandOf, CompleteIsTrue, DeepIsComplete}
+use Rattle.run_defs.specs.Headline.{FitsFabric, CompleteIsTrue, DeepIsComplete}
 
 -- A session over a fabric: the cables of its world are a history that begins with the fabric, and each planned flip has
 -- a pattern of eight bits.
@@ -23,7 +23,7 @@ pub record IsSessionOf (n : Network) (s : SessionState) : Type 0 where
 -- a run of such commands ends in such a session
 abbrev pub RunKeepsWorld : Type 0
 RunKeepsWorld = (n : Network) (commands : List Command) (out : List Piece) (last : SessionState) → IsFabric n
-    → AllByRecursion (IsCommandOf n) commands → IsRun n commands out last → IsSessionOf n last
+    → AllByRecursion (FitsFabric n) commands → IsRun n commands out last → IsSessionOf n last
 
 -- every map that it prints under the word complete was the mapper's part of the fabric before its command
 abbrev pub CompleteMapsAreTrue : Type 0

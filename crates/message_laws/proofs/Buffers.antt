@@ -41,7 +41,7 @@ use Rattle.message_laws.proofs.Hosts.{Rules, Goes, acted-goes}
 use Rattle.act_defs.proofs.Reaching.{reached-has}
 use Rattle.message_laws.proofs.Windows.{numbers_of, reached-windowed}
 use Rattle.message_laws.proofs.Taking.{taker-prio}
-use Rattle.message_laws.specs.Untouched.{held_in, IsUntouched, IsAsProvided, HandsBack, HandsBackBy, ProvidedBuffersAreUntouched, ClosedBuffersAreUntouched}
+use Rattle.message_laws.specs.Untouched.{held_in, IsUntouched, IsAsProvided, HandsBackAll, HandsBackBy, ProvidedBuffersAreUntouched, ClosedBuffersAreUntouched}
 use Rattle.message_laws.proofs.Calls.{PortCalled, stays, opens, closes, provides, polls, IsCall, CallDoes, call-does}
 use Rattle.world_defs.proofs.Lists.{each-replicate}
 
@@ -336,7 +336,7 @@ closable-recvs p c k is =
     let same : recvs_out p ≡ tokens = ap (λ es. tokens ++ received_tokens es) (no-length p.events k.read) ∙ append-nil tokens in
     subst (IsEachOnce p.recvs) (ap (λ l. c.recvs ++ l) same) is.recvs
 
-closed-back_untouched : (n : Network) (w : WorldState) → IsReached n w → (h port count : ℕ) → (closed (node_at w h) port (client_at w h port)).said ≡ Count count → HandsBack w h port count
+closed-back_untouched : (n : Network) (w : WorldState) → IsReached n w → (h port count : ℕ) → (closed (node_at w h) port (client_at w h port)).said ≡ Count count → HandsBackAll w h port count
 closed-back_untouched n w is h port count e =
     let back = said-back (node_at w h) port count (client_at w h port) e in
     let p : PortState = back.0 in

@@ -43,7 +43,7 @@ pub record IsAsProvided (r : Provided) : Type 0 where
 -- What a close hands back: the provided tokens of an open port, as many as it says, each with its buffer as it was
 -- provided. With those that the client holds they are each receive token of the port, once, and the client holds each
 -- send token, once: none is left with a send or in an event.
-pub record HandsBack (w : WorldState) (h port count : ℕ) : Type 0 where
+pub record HandsBackAll (w : WorldState) (h port count : ℕ) : Type 0 where
   pub port_state : PortState
   pub was_open : port_at (node_at w h) port ≡ Some port_state
   pub client : ClientState
@@ -55,7 +55,7 @@ pub record HandsBack (w : WorldState) (h port count : ℕ) : Type 0 where
 
 -- what an event hands back, by its effect: a close that says how many buffers it does, the tokens with these buffers
 abbrev pub HandsBackBy : WorldState → Event → Effect → Type 0
-HandsBackBy w (Close h port) (Said (Count count)) = HandsBack w h port count
+HandsBackBy w (Close h port) (Said (Count count)) = HandsBackAll w h port count
 HandsBackBy w _ _ = Unit {0}
 
 -- each event of a reached world does so

@@ -9,6 +9,6 @@ turns_in (Few count places) = take count places
 turns_in (Many turns) = turns.value.items
 
 -- there are as many places: 14
-abbrev pub IsSound : TurnList → Type 0
-IsSound (Few count places) = count ≤ 14
-IsSound (Many turns) = Unit {0}
+abbrev pub FitsItsPlaces : TurnList → Type 0
+FitsItsPlaces (Few count places) = count ≤ 14
+FitsItsPlaces (Many turns) = Unit {0}

@@ -1,7 +1,7 @@
 //! The turns of a walk: in the walk itself where they are few, else in a block of their own.
 
 ghost use Rattle.std.specs.Prelude.{◌≡◌, ◌≤◌, ◌<◌, ◌-◌, ◌++◌, ◌∷◌, [], length, take, IfOk};
-ghost use Rattle.net_defs.specs.TurnList.{IsSound, turns_in};
+ghost use Rattle.net_defs.specs.TurnList.{FitsItsPlaces, turns_in};
 
 use std::alloc::{AllocError, Global};
 
@@ -21,7 +21,7 @@ impl TurnList {
     /// These turns.
     pub(crate) fn new(alloc: Global, turns: &[i8]) -> Result<TurnList, AllocError>
         ensures turns { IfOk result (λ list. turns_in list ≡ turns.now) }
-        ensures sound { IfOk result (λ list. IsSound list) }
+        ensures sound { IfOk result (λ list. FitsItsPlaces list) }
     {
         if turns.len() <= FEW_TURNS {
             Ok(few(turns))
@@ -32,9 +32,9 @@ impl TurnList {
 
     /// The same turns again. Few of them are copied with their places, whatever their number.
     pub(crate) fn copied(&self, alloc: Global) -> Result<TurnList, AllocError>
-        requires { IsSound self.now }
+        requires { FitsItsPlaces self.now }
         ensures turns { IfOk result (λ list. turns_in list ≡ turns_in self.now) }
-        ensures sound { IfOk result (λ list. IsSound list) }
+        ensures sound { IfOk result (λ list. FitsItsPlaces list) }
     {
         match self {
             TurnList::Few(count, places) => Ok(TurnList::Few(*count, *places)),
@@ -44,7 +44,7 @@ impl TurnList {
 
     /// The turns.
     pub(crate) fn turns(&self) -> &[i8]
-        requires { IsSound self.now }
+        requires { FitsItsPlaces self.now }
         ensures { result.now ≡ turns_in self.now }
     {
         match self {
@@ -55,10 +55,10 @@ impl TurnList {
 
     /// Puts a turn in the place of the last one.
     pub(crate) fn put_last(&mut self, turn: i8)
-        requires sound { IsSound self.old }
+        requires sound { FitsItsPlaces self.old }
         requires some { 0 < length (turns_in self.old) }
         ensures turns { turns_in self.new ≡ take (length (turns_in self.old) - 1) (turns_in self.old) ++ turn ∷ [] }
-        ensures sound { IsSound self.new }
+        ensures sound { FitsItsPlaces self.new }
     {
         let last = self.turns().len() - 1;
         match self {
@@ -72,7 +72,7 @@ impl TurnList {
 fn few(turns: &[i8]) -> TurnList
     requires { length turns.now ≤ 14 }
     ensures turns { turns_in result ≡ turns.now }
-    ensures sound { IsSound result }
+    ensures sound { FitsItsPlaces result }
 {
     let mut places = [0; FEW_TURNS];
     places[..turns.len()].copy_from_slice(turns);
@@ -82,7 +82,7 @@ fn few(turns: &[i8]) -> TurnList
 // Turns in a block of their own.
 fn many(alloc: Global, turns: &[i8]) -> Result<TurnList, AllocError>
     ensures turns { IfOk result (λ list. turns_in list ≡ turns.now) }
-    ensures sound { IfOk result (λ list. IsSound list) }
+    ensures sound { IfOk result (λ list. FitsItsPlaces list) }
 {
     let turns = Vec::from_slice(alloc, turns)?;
     Ok(TurnList::Many(Box::new(alloc, turns)?))

@@ -41,13 +41,13 @@ pub struct Walk {
 impl Model for Walk {
     ghost use Rattle.std.specs.Prelude.{ℤ, List, ◌≤◌, length, All};
     ghost use Rattle.net_defs.specs.Turn.{IsTurn};
-    ghost use Rattle.net_defs.specs.TurnList.{IsSound, turns_in};
+    ghost use Rattle.net_defs.specs.TurnList.{FitsItsPlaces, turns_in};
 
     ghost Value = { List ℤ };
 
     ghost view = { λ w. turns_in w.turns };
 
-    ghost invariant = { λ w. IsSound w.turns × (length (turns_in w.turns) ≤ 64) × All IsTurn (turns_in w.turns) };
+    ghost invariant = { λ w. FitsItsPlaces w.turns × (length (turns_in w.turns) ≤ 64) × All IsTurn (turns_in w.turns) };
 }
 
 impl Walk {

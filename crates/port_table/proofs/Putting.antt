@@ -5,7 +5,7 @@ use Rattle.std.proofs.lemmas.List.{ext_get_or, get_or_past}
 use Rattle.port_table.specs.declared.end.NodePort.{NodePort}
 use Rattle.port_table.specs.declared.table.Known.{Known}
 use Rattle.port_table.specs.declared.table.Known.TheVariants.{Nothing, One, Row}
-use Rattle.port_table.specs.Ends.{IsSound, PutsAt, AddsRow, known_at, one_at, look, alone, entry, dense, rows_of, row_count}
+use Rattle.port_table.specs.Ends.{AreRowsOf, PutsAt, AddsRow, known_at, one_at, look, alone, entry, dense, rows_of, row_count}
 use Rattle.port_table.proofs.Reading.{nat-cases, eq-same, eq-other, entry-at, length-dense, at-dense, count-set}
 
 -- a number without a row
@@ -70,7 +70,7 @@ known-other : (ks : List Known) (n m : ℕ) (a : Known) → n ≢ m → known_at
 known-other ks n m a d = get_or-set_other ks n m a Nothing (λ e. d (sym e))
 
 -- one end alone, or none, where there was at most one
-module _ (ks : List Known) (rows : List (Option NodePort)) (n : ℕ) (a : Known) (sound : IsSound ks rows) (below : n < length ks) (was : IsShort (known_at ks n)) (short : IsShort a) (turn : (p : ℕ) (e : NodePort) → a ≡ one_at p e → p < 31) where
+module _ (ks : List Known) (rows : List (Option NodePort)) (n : ℕ) (a : Known) (sound : AreRowsOf ks rows) (below : n < length ks) (was : IsShort (known_at ks n)) (short : IsShort a) (turn : (p : ℕ) (e : NodePort) → a ≡ one_at p e → p < 31) where
   short-same : (m : ℕ) → n ≡ m → known_at (set ks n a) m ≡ a
   short-same m e = ap (known_at (set ks n a)) (sym e) ∙ known-set ks n a below
 
@@ -88,7 +88,7 @@ module _ (ks : List Known) (rows : List (Option NodePort)) (n : ℕ) (a : Known)
       by (inl s) = turn p e (sym (short-same m s) ∙ is)
       by (inr d) = sound.turns m p e (sym (known-other ks n m a d) ∙ is)
 
-  short-sound : IsSound (set ks n a) rows
+  short-sound : AreRowsOf (set ks n a) rows
   short-sound = record {
     counted = (let c = count-set ks n a below in let x = short-count (known_at ks n) was in let y = short-count a short in let s = sound.counted in omega (arith, c, x, y, s));
     inside = λ m r e. sound.inside m r (short-row m r e);
@@ -96,7 +96,7 @@ module _ (ks : List Known) (rows : List (Option NodePort)) (n : ℕ) (a : Known)
     apart = λ m k r e f. sound.apart m k r (short-row m r e) (short-row k r f);
   }
 
-pub puts-alone : (ks : List Known) (rows : List (Option NodePort)) (n i : ℕ) (v : Option NodePort) → IsSound ks rows → n < length ks → i < 31 → IsShort (known_at ks n) → ((k : ℕ) → i ≢ k → look rows (known_at ks n) k ≡ None) → PutsAt n i v ks rows (set ks n (alone i v)) rows
+pub puts-alone : (ks : List Known) (rows : List (Option NodePort)) (n i : ℕ) (v : Option NodePort) → AreRowsOf ks rows → n < length ks → i < 31 → IsShort (known_at ks n) → ((k : ℕ) → i ≢ k → look rows (known_at ks n) k ≡ None) → PutsAt n i v ks rows (set ks n (alone i v)) rows
 puts-alone ks rows n i v sound below turn was bare = record {
   same = length-set ks n (alone i v);
   sound = short-sound ks rows n (alone i v) sound below was (alone-short i v) (alone-turn i v turn);
@@ -106,7 +106,7 @@ puts-alone ks rows n i v sound below turn was bare = record {
 }
 
 -- an end in a row
-module _ (ks : List Known) (rows : List (Option NodePort)) (n i r : ℕ) (v : Option NodePort) (sound : IsSound ks rows) (turn : i < 31) (is : known_at ks n ≡ Row r) where
+module _ (ks : List Known) (rows : List (Option NodePort)) (n i r : ℕ) (v : Option NodePort) (sound : AreRowsOf ks rows) (turn : i < 31) (is : known_at ks n ≡ Row r) where
   news : List (Option NodePort)
   news = set rows (31 * r + i) v
 
@@ -133,7 +133,7 @@ module _ (ks : List Known) (rows : List (Option NodePort)) (n i r : ℕ) (v : Op
   }
 
 -- a second end, for which a row is made
-module _ (ks : List Known) (rows : List (Option NodePort)) (n i p row : ℕ) (v : Option NodePort) (e : NodePort) (news : List (Option NodePort)) (sound : IsSound ks rows) (below : n < length ks) (turn : i < 31) (first : p < 31) (two : p ≢ i) (is : known_at ks n ≡ one_at p e) (adds : AddsRow p i (Some e) v rows news row) where
+module _ (ks : List Known) (rows : List (Option NodePort)) (n i p row : ℕ) (v : Option NodePort) (e : NodePort) (news : List (Option NodePort)) (sound : AreRowsOf ks rows) (below : n < length ks) (turn : i < 31) (first : p < 31) (two : p ≢ i) (is : known_at ks n ≡ one_at p e) (adds : AddsRow p i (Some e) v rows news row) where
   made : known_at (set ks n (Row row)) n ≡ Row row
   made = known-set ks n (Row row) below
 
@@ -232,7 +232,7 @@ pub row-count-append : (ks more : List Known) → row_count (ks ++ more) ≡ row
 row-count-append [] more = omega arith
 row-count-append (k ∷ ks) more = let r = row-count-append ks more in omega (arith, r)
 
-pub sound-longer : (ks new : List Known) (rows : List (Option NodePort)) → IsSound ks rows → row_count new ≡ row_count ks → ((m : ℕ) → known_at new m ≡ known_at ks m) → IsSound new rows
+pub sound-longer : (ks new : List Known) (rows : List (Option NodePort)) → AreRowsOf ks rows → row_count new ≡ row_count ks → ((m : ℕ) → known_at new m ≡ known_at ks m) → AreRowsOf new rows
 sound-longer ks new rows sound count same = record {
   counted = sound.counted ∙ ap (λ c. 31 * c) (sym count);
   inside = λ n r e. sound.inside n r (sym (same n) ∙ e);

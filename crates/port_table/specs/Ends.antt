@@ -69,7 +69,7 @@ row_count [] = 0
 row_count (k ∷ ks) = rows_of k + row_count ks
 
 -- Each row is that of one number, there are no others, and an end that is alone has a place.
-pub record IsSound (ks : List Known) (rows : List (Option NodePort)) : Type 0 where
+pub record AreRowsOf (ks : List Known) (rows : List (Option NodePort)) : Type 0 where
   pub counted : length rows ≡ 31 * row_count ks
   pub inside : (n r : ℕ) → known_at ks n ≡ Row r → 31 * r + 31 ≤ length rows
   pub turns : (n p : ℕ) (e : NodePort) → known_at ks n ≡ one_at p e → p < 31
@@ -79,7 +79,7 @@ pub record IsSound (ks : List Known) (rows : List (Option NodePort)) : Type 0 wh
 pub record PutsAt (n i : ℕ) (end : Option NodePort) (ks : List Known) (rows : List (Option NodePort)) (new : List Known)
     (news : List (Option NodePort)) : Type 0 where
   pub same : length new ≡ length ks
-  pub sound : IsSound new news
+  pub sound : AreRowsOf new news
   pub here : look news (known_at new n) i ≡ end
   pub beside : (k : ℕ) → k < 31 → i ≢ k → look news (known_at new n) k ≡ look rows (known_at ks n) k
   pub other : (m k : ℕ) → k < 31 → n ≢ m → look news (known_at new m) k ≡ look rows (known_at ks m) k

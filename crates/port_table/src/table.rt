@@ -2,7 +2,7 @@
 
 ghost use Rattle.std.specs.Prelude.{◌≡◌, ◌≢◌, ℕ, ◌<◌, ◌≤◌, ◌+◌, ◌*◌, ◌^◌, [], length, set, slice_index_or, None, Some};
 ghost use Rattle.std.specs.Prelude.{false, vec_capacity, OnOk};
-ghost use Rattle.port_table.specs.Ends.{AddsPlaces, AddsRow, HasRoomForNumber, IsSound, PutsAt, alone, known_at, look};
+ghost use Rattle.port_table.specs.Ends.{AddsPlaces, AddsRow, HasRoomForNumber, AreRowsOf, PutsAt, alone, known_at, look};
 ghost use Rattle.port_table.specs.Ends.{one_at, HasPlace, IsOutside, IsSpanOf};
 
 use crate::end::NodePort;
@@ -43,7 +43,7 @@ pub struct PortTable {
 
 impl Model for PortTable {
     ghost use Rattle.std.specs.Prelude.{◌≤◌, ◌*◌, length, min, vec_capacity};
-    ghost use Rattle.port_table.specs.Ends.{EndTable, IsSound, dense};
+    ghost use Rattle.port_table.specs.Ends.{EndTable, AreRowsOf, dense};
 
     ghost Value = { EndTable };
 
@@ -53,7 +53,7 @@ impl Model for PortTable {
       row_room = t.rows.room;
     } };
 
-    ghost invariant = { λ t. IsSound t.known.items t.rows.items × (31 * length t.known.items ≤ t.rows.room) ×
+    ghost invariant = { λ t. AreRowsOf t.known.items t.rows.items × (31 * length t.known.items ≤ t.rows.room) ×
         (length t.known.items ≤ 4294967296) };
 }
 
@@ -199,7 +199,7 @@ fn numbers_with_room(numbers: usize) -> usize
 fn looked(known: &Vec<Known>, rows: &Rows, number: usize, place: usize) -> Option<NodePort>
     requires there { number < length known.now.items }
     requires place { place < 31 }
-    requires sound { IsSound known.now.items rows.now.items }
+    requires sound { AreRowsOf known.now.items rows.now.items }
     ensures { result ≡ look rows.now.items (known_at known.now.items number) place }
 {
     match known_of(known, number) {
@@ -265,7 +265,7 @@ fn set_row_end(rows: &mut Rows, row: usize, place: usize, end: Option<NodePort>)
 fn put(known: &mut Vec<Known>, rows: &mut Rows, number: usize, place: usize, end: Option<NodePort>)
     requires there { number < length known.old.items }
     requires place { place < 31 }
-    requires sound { IsSound known.old.items rows.old.items }
+    requires sound { AreRowsOf known.old.items rows.old.items }
     requires few { length known.old.items ≤ 2 ^ 32 }
     requires room { 31 * length known.old.items ≤ rows.old.room }
     ensures puts { PutsAt number place end known.old.items rows.old.items known.new.items rows.new.items }
@@ -295,7 +295,7 @@ fn put_beside(
     requires place { place < 31 }
     requires one { known_at known.old.items number ≡ one_at at first }
     requires at { at < 31 }
-    requires sound { IsSound known.old.items rows.old.items }
+    requires sound { AreRowsOf known.old.items rows.old.items }
     requires few { length known.old.items ≤ 2 ^ 32 }
     requires room { 31 * length known.old.items ≤ rows.old.room }
     ensures puts { PutsAt number place end known.old.items rows.old.items known.new.items rows.new.items }

@@ -26,7 +26,7 @@ use Rattle.run_defs.specs.Run.{IsDeed, Does, Runs, map_pieces, routes_lines}
 use Rattle.run_defs.specs.Run.IsDeed.{determined, maps, circuits, routes}
 use Rattle.run_defs.proofs.ByKind.{InDeed, IsLaw, by-kind}
 use Rattle.run_defs.specs.Run.Runs.{ended, goes_on}
-use Rattle.run_defs.specs.Headline.{IsCommandOf}
+use Rattle.run_defs.specs.Headline.{FitsFabric}
 use Rattle.mapping_laws.specs.Runs.{IsSessionOf}
 use Rattle.mapping_laws.proofs.Sessions.{can-map-now, does-stays, new-session}
 use Rattle.print_laws.specs.Printed.{IsPrintable, IsReadAgain, MapsOfRunsReadBack, CompleteMapsReadBack, CircuitMapsReadBack}
@@ -84,7 +84,7 @@ circuit-read n k host depth out f fair same named there (whole j m growing kept 
     subst (AreRead n) (sym printed) (tt, (printable_is_read_again n m f named (printable-of k n m same (circuit_map_is_printable k host depth j m fair there kept is)), tt))
 circuit-read n k host depth out f fair same named there (too_many_nodes j growing passed printed) = subst (AreRead n) (sym printed) (tt, tt)
 
-deed-read : {s : SessionState} {c : Command} {d : Deed} → (n : Network) → IsFabric n → AreNamed n → IsCommandOf n c → IsSessionOf n s → IsDeed s c d → AreRead n d.output
+deed-read : {s : SessionState} {c : Command} {d : Deed} → (n : Network) → IsFabric n → AreNamed n → FitsFabric n c → IsSessionOf n s → IsDeed s c d → AreRead n d.output
 deed-read {s = s} {c = c} n f named of_n is (determined e) = subst (InDeed (ReadDeed n)) e (by-kind (ReadDeed n) s (kind_of c) (read-law n s (kind_of c)))
 deed-read {s = s} n f named of_n is (maps {host = host} {depth = depth} {tries = tries} after j m words idle made same) =
     let can = can-map-now n s host depth tries of_n is idle in
@@ -97,10 +97,10 @@ deed-read {s = s} n f named of_n is (circuits {host = host} {depth = depth} out 
     (circuit-read n (fabric_of s.world) host depth out f (now_is_fabric s.world.links.cables is.history) hosts named (subst (λ hs. host < length hs) (sym hosts) of_n) told)
 deed-read n f named of_n is (routes l found complete are same) = subst (ReadDeed n) (sym same) (lines-read n (routes_lines l.made found))
 
-does-read : {s next : SessionState} {c : Command} {out : List Piece} → (n : Network) → IsFabric n → AreNamed n → IsCommandOf n c → IsSessionOf n s → Does s c out next → AreRead n out
+does-read : {s next : SessionState} {c : Command} {out : List Piece} → (n : Network) → IsFabric n → AreNamed n → FitsFabric n c → IsSessionOf n s → Does s c out next → AreRead n out
 does-read n f named of_n is d = subst (AreRead n) (sym d.prints) (deed-read n f named of_n is d.is)
 
-runs-read : {s last : SessionState} {cs : List Command} {out : List Piece} → (n : Network) → IsFabric n → AreNamed n → AllByRecursion (IsCommandOf n) cs → IsSessionOf n s → Runs s cs out last → AreRead n out
+runs-read : {s last : SessionState} {cs : List Command} {out : List Piece} → (n : Network) → IsFabric n → AreNamed n → AllByRecursion (FitsFabric n) cs → IsSessionOf n s → Runs s cs out last → AreRead n out
 runs-read n f named all is ended = tt
 runs-read n f named all is (goes_on {out = out} {rest = rest} d r e) =
     subst (AreRead n) (sym e) (all-join (IsReadPiece n) out rest (does-read n f named all.0 is d) (runs-read n f named all.1 (does-stays n all.0 is d) r))

@@ -15,7 +15,7 @@ use Rattle.run_defs.specs.Mapped.{IsMapped}
 use Rattle.run_defs.specs.Output.{Piece, MapLines}
 use Rattle.run_defs.specs.Session.{SessionState}
 use Rattle.run_defs.specs.Run.{IsRun}
-use Rattle.run_defs.specs.Headline.{IsCommandOf, HasPrinted}
+use Rattle.run_defs.specs.Headline.{FitsFabric, HasPrinted}
 use Rattle.fabric_file.specs.Reading.{AreNamed}
 use Rattle.map_canon.specs.Printing.{AreOfFabric}
 use Rattle.map_canon.specs.Reading.{map_reading}
@@ -55,19 +55,19 @@ abbrev pub MapsOfRunsReadBack : Type 0
 MapsOfRunsReadBack =
     (n : Network) (commands : List Command) (out : List Piece) (last : SessionState) (before behind : List Piece)
     (m : NetMap)
-    → IsFabric n → AreNamed n → AllByRecursion (IsCommandOf n) commands → IsRun n commands out last
+    → IsFabric n → AreNamed n → AllByRecursion (FitsFabric n) commands → IsRun n commands out last
     → out ≡ before ++ MapLines m ∷ behind → IsReadAgain n m
 
 -- So is each that it prints under the word complete.
 abbrev pub CompleteMapsReadBack : Type 0
 CompleteMapsReadBack =
     (n : Network) (commands : List Command) (out : List Piece) (last : SessionState) (mapper : ℕ) (m : NetMap)
-    → IsFabric n → AreNamed n → AllByRecursion (IsCommandOf n) commands → IsRun n commands out last
+    → IsFabric n → AreNamed n → AllByRecursion (FitsFabric n) commands → IsRun n commands out last
     → HasPrinted out mapper m → IsReadAgain n m
 
 -- So is each that it prints of circuit links.
 abbrev pub CircuitMapsReadBack : Type 0
 CircuitMapsReadBack =
     (n : Network) (commands : List Command) (out : List Piece) (last : SessionState) (host depth asks : ℕ) (m : NetMap)
-    → IsFabric n → AreNamed n → AllByRecursion (IsCommandOf n) commands → IsRun n commands out last
+    → IsFabric n → AreNamed n → AllByRecursion (FitsFabric n) commands → IsRun n commands out last
     → HasPrintedCircuit out host depth asks m → IsReadAgain n m

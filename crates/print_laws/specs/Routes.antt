@@ -16,7 +16,7 @@ use Rattle.run_defs.specs.declared.line.Line.TheVariants.{NoMap, Routes as Route
 use Rattle.run_defs.specs.Output.{Piece, lines}
 use Rattle.run_defs.specs.Session.{SessionState, LastMap, complete_map}
 use Rattle.run_defs.specs.Run.{Does, IsRun, route_line, rank_line}
-use Rattle.run_defs.specs.Headline.{IsCommandOf}
+use Rattle.run_defs.specs.Headline.{FitsFabric}
 
 -- The lines are the routes of the last map, which is complete and was its mapper's part of the fabric as it stood when
 -- the map began: the least legal one for each two hosts. Each led in that fabric to its host, and the ranks of the
@@ -43,5 +43,5 @@ AreRoutesTold s printed =
 abbrev pub PrintedRoutesAreRight : Type 0
 PrintedRoutesAreRight =
     (n : Network) (commands : List Command) (out printed : List Piece) (s next : SessionState) → IsFabric n
-    → AllByRecursion (IsCommandOf n) commands → IsRun n commands out s → Does s Routes printed next
+    → AllByRecursion (FitsFabric n) commands → IsRun n commands out s → Does s Routes printed next
     → AreRoutesTold s printed

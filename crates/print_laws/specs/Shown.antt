@@ -12,7 +12,7 @@ use Rattle.run_defs.specs.declared.line.MapWords.TheVariants.{Complete}
 use Rattle.run_defs.specs.Output.{Piece, OneLine, MapLines}
 use Rattle.run_defs.specs.Session.{SessionState}
 use Rattle.run_defs.specs.Run.{Does, IsRun}
-use Rattle.run_defs.specs.Headline.{IsCommandOf}
+use Rattle.run_defs.specs.Headline.{FitsFabric}
 use Rattle.print_laws.specs.Standing.{StandsOver}
 
 -- A command `map` prints its line with these words, and a map.
@@ -24,13 +24,13 @@ pub record PrintsMap (s next : SessionState) (host depth tries : ℕ) (words : M
 -- After a run of commands a command `map` of a host prints so.
 pub record IsPrintedAfter (n : Network) (commands : List Command) (host : ℕ) (words : MapWords)
     (m : NetMap) : Type 0 where
-  pub over : AllByRecursion (IsCommandOf n) commands
+  pub over : AllByRecursion (FitsFabric n) commands
   pub out : List Piece
   pub session : SessionState
   pub run : IsRun n commands out session
   pub depth : ℕ
   pub tries : ℕ
-  pub of_fabric : IsCommandOf n (Map host depth tries)
+  pub of_fabric : FitsFabric n (Map host depth tries)
   pub next : SessionState
   pub prints : PrintsMap session next host depth tries words m
 

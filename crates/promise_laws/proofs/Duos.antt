@@ -25,7 +25,7 @@ use Rattle.run_defs.specs.Run.IsDeed.{determined, maps, circuits, routes}
 use Rattle.run_defs.proofs.ByKind.{InDeed, IsLaw, by-kind}
 use Rattle.run_defs.specs.Run.Runs.{ended, goes_on}
 use Rattle.run_defs.specs.Session.{SessionState}
-use Rattle.fab_script.specs.Ranges.{IsCommandOf as IsSaid}
+use Rattle.fab_script.specs.Ranges.{IsCommandOf}
 use Rattle.fab_script.proofs.Ranged.{events_are_fair}
 use Rattle.promise_laws.specs.CutShort.{IsPartActed, IsCutShort}
 use Rattle.promise_laws.specs.CutShort.IsCutShort.{undone, part_done}
@@ -211,16 +211,16 @@ cut-beside s c v d (part_done x is way) = by (line-or-other c)
     by (inl (e, same)) = undone (none-done s.world v x.acts (ap (λ (y : Deed). y.acts) (duo-deed e same is)) way)
     by (inr other) = part_done x (deed-beside d other is) way
 
-does-reach : {s next : SessionState} {c : Command} {out : List Piece} → (n : Network) → IsSaid n c → AreReached s.duo → Does s c out next → AreReached next.duo
+does-reach : {s next : SessionState} {c : Command} {out : List Piece} → (n : Network) → IsCommandOf n c → AreReached s.duo → Does s c out next → AreReached next.duo
 does-reach {s = s} {next = next} {c = c} n said is does = by (line-or-other c)
   where
     by : ((e : DuoEvent) × (c ≡ Duo e)) ⊎ IsOther c → AreReached next.duo
     by (inl (e, same)) =
         let left = ap (λ (x : SessionState). x.duo) (did e same does).left in
-        subst AreReached (sym left) (step-reached (begun s.duo) e (begun-reached s.duo is) (events_are_fair e (subst (IsSaid n) same said)))
+        subst AreReached (sym left) (step-reached (begun s.duo) e (begun-reached s.duo is) (events_are_fair e (subst (IsCommandOf n) same said)))
     by (inr other) = subst AreReached (sym (does-keep other does)) is
 
-runs-reach : {s last : SessionState} {cs : List Command} {out : List Piece} → (n : Network) → AllByRecursion (IsSaid n) cs → AreReached s.duo → Runs s cs out last → AreReached last.duo
+runs-reach : {s last : SessionState} {cs : List Command} {out : List Piece} → (n : Network) → AllByRecursion (IsCommandOf n) cs → AreReached s.duo → Runs s cs out last → AreReached last.duo
 runs-reach n all is ended = is
 runs-reach n all is (goes_on d r e) = runs-reach n all.1 (does-reach n all.0 is d) r
 

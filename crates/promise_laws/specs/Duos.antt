@@ -15,7 +15,7 @@ use Rattle.run_defs.specs.Duos.{begun, beside, IsOther}
 use Rattle.run_defs.specs.Output.{Piece, OneLine}
 use Rattle.run_defs.specs.Run.{Does, IsRun}
 use Rattle.run_defs.specs.Session.{SessionState}
-use Rattle.fab_script.specs.Ranges.{IsCommandOf as IsSaid}
+use Rattle.fab_script.specs.Ranges.{IsCommandOf}
 
 -- A line of the two hosts depends on them alone: sessions that hold the same print the same, and hold the same then.
 abbrev pub DuoLinesDependOnTheDuo : Type 0
@@ -50,14 +50,14 @@ pub data IsDuoLeft (s : SessionState) (c : Command) (d : Option DuoState) : Type
 abbrev pub DuosAreReached : Type 0
 DuosAreReached =
     (n : Network) (commands : List Command) (out : List Piece) (last : SessionState) (d : DuoState)
-    → AllByRecursion (IsSaid n) commands → IsRun n commands out last → last.duo ≡ Some d → IsReachedFromNew d
+    → AllByRecursion (IsCommandOf n) commands → IsRun n commands out last → last.duo ≡ Some d → IsReachedFromNew d
 
 -- and where memory runs out for the next command, so are those that are left
 abbrev pub LeftDuosAreReached : Type 0
 LeftDuosAreReached =
     (n : Network) (commands : List Command) (out : List Piece) (s : SessionState) (c : Command) (left : Option DuoState)
     (d : DuoState)
-    → AllByRecursion (IsSaid n) commands → IsSaid n c → IsRun n commands out s → IsDuoLeft s c left → left ≡ Some d
+    → AllByRecursion (IsCommandOf n) commands → IsCommandOf n c → IsRun n commands out s → IsDuoLeft s c left → left ≡ Some d
     → IsReachedFromNew d
 
 -- so what an incarnation got of another is a prefix of what that one sent it, and each token has one owner
@@ -72,6 +72,6 @@ ReachedDuosAreSound = (d : DuoState) → IsReachedFromNew d → IsDuoSound d
 abbrev pub DuoPollsAreRight : Type 0
 DuoPollsAreRight =
     (n : Network) (commands : List Command) (out : List Piece) (s next : SessionState) (x t : ℕ)
-    → AllByRecursion (IsSaid n) commands → IsRun n commands out s
+    → AllByRecursion (IsCommandOf n) commands → IsRun n commands out s
     → (Does s (Duo (Poll x)) (OneLine (DuoLine (Sent t)) ∷ []) next → IsSentRight (begun s.duo) x t)
     × (Does s (Duo (Poll x)) (OneLine (DuoLine (Unsure t)) ∷ []) next → IsUnsureRight (begun s.duo) x t)

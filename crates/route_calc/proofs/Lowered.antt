@@ -13,7 +13,7 @@ use Rattle.route_calc.specs.declared.entered.Exit.{Exit}
 use Rattle.route_calc.specs.Reaching.{may_go, leads_near, port_of_place, least_exit, reaches}
 use Rattle.route_calc.specs.Far.{place_in, far_at, AreDistances}
 use Rattle.route_calc.specs.Exits.{exit_at, exits_of, is_open}
-use Rattle.route_calc.specs.Lowering.{least_with, nearest_after, lowers, lowered, AreSound, IsStep, IsSettled, AreSettled, sweep}
+use Rattle.route_calc.specs.Lowering.{least_with, nearest_after, lowers, lowered, AreSound, IsStep, IsLowest, AreLowest, sweep}
 use Rattle.route_calc.proofs.First.{first-there}
 use Rattle.route_calc.proofs.Reached.{reaches-later, reaches-over}
 use Rattle.route_calc.proofs.Listed.{exits-placed, placed-exits}
@@ -222,8 +222,8 @@ step-more m order a b c s t one two = record { long = two.long ∙ one.long; sou
     same_by false false one two e = two.same refl ∙ one.same refl
 
 -- where nothing was lowered, nothing can be
-pub settled-one : (m : NetMap) (order far new : List ℕ) (xs : List Exit) (v : ℕ) (down : Bool) → xs ≡ exits_of m order v → new ≡ lowered far xs v down → lowers far xs v down ≡ false → IsSettled m order new v down
-settled-one m order far new xs v down are is e = subst (λ n. IsSettled m order n v down) (sym at) (record { settled = λ switch k f l leads legal. near k f l leads legal })
+pub settled-one : (m : NetMap) (order far new : List ℕ) (xs : List Exit) (v : ℕ) (down : Bool) → xs ≡ exits_of m order v → new ≡ lowered far xs v down → lowers far xs v down ≡ false → IsLowest m order new v down
+settled-one m order far new xs v down are is e = subst (λ n. IsLowest m order n v down) (sym at) (record { settled = λ switch k f l leads legal. near k f l leads legal })
   where
     at : new ≡ far
     at = is ∙ ap (λ b. if b then set far (place_in v down) (nearest_after far down 255 xs + 1) else far) e
@@ -239,17 +239,17 @@ settled-one m order far new xs v down are is e = subst (λ n. IsSettled m order 
         omega arith
 
 -- a host leads nowhere on
-pub settled-host : (m : NetMap) (order far : List ℕ) (v : ℕ) (down : Bool) → is_switch_vertex m v ≡ false → IsSettled m order far v down
+pub settled-host : (m : NetMap) (order far : List ℕ) (v : ℕ) (down : Bool) → is_switch_vertex m v ≡ false → IsLowest m order far v down
 settled-host m order far v down host = record { settled = λ switch k f l leads legal. absurd (false≢true (sym host ∙ switch)) }
 
-pub all-settled-none : (m : NetMap) (order far : List ℕ) → AreSettled m order far 0
+pub all-settled-none : (m : NetMap) (order far : List ℕ) → AreLowest m order far 0
 all-settled-none m order far = record { each = λ k l. absurd (omega arith) }
 
-pub all-settled-more : (m : NetMap) (order far : List ℕ) (k : ℕ) → AreSettled m order far k → IsSettled m order far (sweep (length m.vertices) k).0 (sweep (length m.vertices) k).1 → AreSettled m order far (k + 1)
+pub all-settled-more : (m : NetMap) (order far : List ℕ) (k : ℕ) → AreLowest m order far k → IsLowest m order far (sweep (length m.vertices) k).0 (sweep (length m.vertices) k).1 → AreLowest m order far (k + 1)
 all-settled-more m order far k all one = record { each = λ j l. by j l (cases_order j k) }
   where
-    by : (j : ℕ) → j < k + 1 → (j ≡ k) ⊎ ((j < k) ⊎ (k < j)) → IsSettled m order far (sweep (length m.vertices) j).0 (sweep (length m.vertices) j).1
-    by j l (inl e) = subst (λ i. IsSettled m order far (sweep (length m.vertices) i).0 (sweep (length m.vertices) i).1) (sym e) one
+    by : (j : ℕ) → j < k + 1 → (j ≡ k) ⊎ ((j < k) ⊎ (k < j)) → IsLowest m order far (sweep (length m.vertices) j).0 (sweep (length m.vertices) j).1
+    by j l (inl e) = subst (λ i. IsLowest m order far (sweep (length m.vertices) i).0 (sweep (length m.vertices) i).1) (sym e) one
     by j l (inr (inl a)) = all.each j a
     by j l (inr (inr a)) = absurd (omega arith)
 
@@ -266,12 +266,12 @@ sweep-free n v l =
     let at : (n + v) - n ≡ v = omega arith in
     ap (λ b. if b then (n - 1 - (n + v), true) else ((n + v) - n, false)) test ∙ ap (λ k. (k, false)) at
 
-settled-at : (m : NetMap) (order far : List ℕ) (v : ℕ) (down : Bool) → AreSettled m order far (2 * length m.vertices) → v < length m.vertices → IsSettled m order far v down
-settled-at m order far v true all l = subst (λ (s : ℕ × Bool). IsSettled m order far s.0 s.1) (sweep-down (length m.vertices) v l) (all.each (length m.vertices - 1 - v) (omega arith))
-settled-at m order far v false all l = subst (λ (s : ℕ × Bool). IsSettled m order far s.0 s.1) (sweep-free (length m.vertices) v l) (all.each (length m.vertices + v) (omega arith))
+settled-at : (m : NetMap) (order far : List ℕ) (v : ℕ) (down : Bool) → AreLowest m order far (2 * length m.vertices) → v < length m.vertices → IsLowest m order far v down
+settled-at m order far v true all l = subst (λ (s : ℕ × Bool). IsLowest m order far s.0 s.1) (sweep-down (length m.vertices) v l) (all.each (length m.vertices - 1 - v) (omega arith))
+settled-at m order far v false all l = subst (λ (s : ℕ × Bool). IsLowest m order far s.0 s.1) (sweep-free (length m.vertices) v l) (all.each (length m.vertices + v) (omega arith))
 
 -- then no distance is above the fewest channels
-settled-near : (m : NetMap) (order far : List ℕ) (to k v : ℕ) (down : Bool) → AreSound m order to far → AreSettled m order far (2 * length m.vertices) → reaches m order to k v down ≡ true → far_at far v down ≤ k
+settled-near : (m : NetMap) (order far : List ℕ) (to k v : ℕ) (down : Bool) → AreSound m order to far → AreLowest m order far (2 * length m.vertices) → reaches m order to k v down ≡ true → far_at far v down ≤ k
 settled-near m order far to zero v down s all e =
     let same : v ≡ to = (Decides-eqb v to).0 e in
     let there : far_at far v down ≡ 0 = subst (λ z. far_at far z down ≡ 0) (sym same) (s.there down) in
@@ -300,7 +300,7 @@ settled-near m order far to (suc k) v down s all e = by (or_cases (reaches m ord
         on two.0 f.at f.low (map_far m (port_of_place v f.at)) refl f.passes rest
 
 -- so each is just that
-pub settled-distances : (m : NetMap) (order far : List ℕ) (to : ℕ) → AreSound m order to far → AreSettled m order far (2 * length m.vertices) → AreDistances m order to far
+pub settled-distances : (m : NetMap) (order far : List ℕ) (to : ℕ) → AreSound m order to far → AreLowest m order far (2 * length m.vertices) → AreDistances m order to far
 settled-distances m order far to s all = record { each = λ k v down l. by k v down l (reaches m order to k v down) refl (nat_le (far_at far v down) k) refl }
   where
     fits : (a b : ℕ) → nat_le a b ≡ false → b < a

@@ -9,7 +9,7 @@ use Rattle.route_calc.specs.declared.entered.Exit.{Exit}
 use Rattle.route_calc.specs.Reaching.{may_go, port_of_place}
 use Rattle.route_calc.specs.Far.{place_in, far_at}
 use Rattle.route_calc.specs.Exits.{exit_at, exits_of}
-use Rattle.route_calc.specs.Lowering.{nearest_after, lowers, lowered, IsSettled, AreSettled, AreNumbered, sweep}
+use Rattle.route_calc.specs.Lowering.{nearest_after, lowers, lowered, IsLowest, AreLowest, AreNumbered, sweep}
 use Rattle.route_calc.proofs.Listed.{placed-exits}
 use Rattle.route_calc.proofs.Lowered.{nearest-below, set-case, settled-one, settled-host, all-settled-more}
 
@@ -27,7 +27,7 @@ kept : (far : List ℕ) (xs : List Exit) (v : ℕ) (down : Bool) → lowers far 
 kept far xs v down e = ap (λ b. if b then set far (place_in v down) (nearest_after far down 255 xs + 1) else far) e
 
 -- a distance that was looked at is settled
-pub settled-after : (m : NetMap) (order far new : List ℕ) (xs : List Exit) (v : ℕ) (down : Bool) → place_in v down < length far → xs ≡ exits_of m order v → new ≡ lowered far xs v down → IsSettled m order new v down
+pub settled-after : (m : NetMap) (order far new : List ℕ) (xs : List Exit) (v : ℕ) (down : Bool) → place_in v down < length far → xs ≡ exits_of m order v → new ≡ lowered far xs v down → IsLowest m order new v down
 settled-after m order far new xs v down low are is = by (lowers far xs v down) refl
   where
     near : ℕ
@@ -49,9 +49,9 @@ settled-after m order far new xs v down low are is = by (lowers far xs v down) r
     here (inl e) = e.2
     here (inr e) = absurd (e.0 refl)
 
-    by : (b : Bool) → lowers far xs v down ≡ b → IsSettled m order new v down
+    by : (b : Bool) → lowers far xs v down ≡ b → IsLowest m order new v down
     by false e = settled-one m order far new xs v down are is e
-    by true e = subst (λ n. IsSettled m order n v down) (sym (is ∙ written far xs v down e)) (record {
+    by true e = subst (λ n. IsLowest m order n v down) (sym (is ∙ written far xs v down e)) (record {
       settled = λ switch k f l leads legal.
           (let mine = here (set-case far v v (near + 1) down down low) in
           let other = at f.v (not (is_up m order (port_of_place v k))) (set-case far v f.v (near + 1) down (not (is_up m order (port_of_place v k))) low) (over k f l leads legal) in
@@ -98,12 +98,12 @@ lowered-most far xs v down u phase low e = by (set-case far v u (nearest_after f
     by (inr c) = let s = c.1 in omega arith
 
 -- what was settled earlier in a sweep stays so
-stays-settled : (m : NetMap) (order far new : List ℕ) (xs : List Exit) (a b : ℕ × Bool) → AreNumbered m order → Before a b → is_switch_vertex m b.0 ≡ true → place_in b.0 b.1 < length far → new ≡ lowered far xs b.0 b.1 → IsSettled m order far a.0 a.1 → IsSettled m order new a.0 a.1
+stays-settled : (m : NetMap) (order far new : List ℕ) (xs : List Exit) (a b : ℕ × Bool) → AreNumbered m order → Before a b → is_switch_vertex m b.0 ≡ true → place_in b.0 b.1 < length far → new ≡ lowered far xs b.0 b.1 → IsLowest m order far a.0 a.1 → IsLowest m order new a.0 a.1
 stays-settled m order far new xs a b num before to low is old = by (lowers far xs b.0 b.1) refl
   where
-    by : (t : Bool) → lowers far xs b.0 b.1 ≡ t → IsSettled m order new a.0 a.1
-    by false e = subst (λ n. IsSettled m order n a.0 a.1) (sym (is ∙ kept far xs b.0 b.1 e)) old
-    by true e = subst (λ n. IsSettled m order n a.0 a.1) (sym (is ∙ written far xs b.0 b.1 e)) (record { settled = near })
+    by : (t : Bool) → lowers far xs b.0 b.1 ≡ t → IsLowest m order new a.0 a.1
+    by false e = subst (λ n. IsLowest m order n a.0 a.1) (sym (is ∙ kept far xs b.0 b.1 e)) old
+    by true e = subst (λ n. IsLowest m order n a.0 a.1) (sym (is ∙ written far xs b.0 b.1 e)) (record { settled = near })
       where
         near : is_switch_vertex m a.0 ≡ true → (i : ℕ) (f : MapPort) → i < 31 → map_far m (port_of_place a.0 i) ≡ Some f → may_go a.1 (is_up m order (port_of_place a.0 i)) ≡ true → far_at (set far (place_in b.0 b.1) (nearest_after far b.1 255 xs + 1)) a.0 a.1 ≤ far_at (set far (place_in b.0 b.1) (nearest_after far b.1 255 xs + 1)) f.v (not (is_up m order (port_of_place a.0 i))) + 1
         near switch i f l leads legal = at (set-case far b.0 f.v (nearest_after far b.1 255 xs + 1) b.1 (not (is_up m order (port_of_place a.0 i))) low)
@@ -117,23 +117,23 @@ stays-settled m order far new xs a b num before to low is old = by (lowers far x
                 omega arith
 
 -- one more place of the sweep
-pub swept-more : (m : NetMap) (order far new : List ℕ) (xs : List Exit) (k : ℕ) → AreNumbered m order → is_switch_vertex m (sweep (length m.vertices) k).0 ≡ true → place_in (sweep (length m.vertices) k).0 (sweep (length m.vertices) k).1 < length far → xs ≡ exits_of m order (sweep (length m.vertices) k).0 → new ≡ lowered far xs (sweep (length m.vertices) k).0 (sweep (length m.vertices) k).1 → AreSettled m order far k → AreSettled m order new (k + 1)
+pub swept-more : (m : NetMap) (order far new : List ℕ) (xs : List Exit) (k : ℕ) → AreNumbered m order → is_switch_vertex m (sweep (length m.vertices) k).0 ≡ true → place_in (sweep (length m.vertices) k).0 (sweep (length m.vertices) k).1 < length far → xs ≡ exits_of m order (sweep (length m.vertices) k).0 → new ≡ lowered far xs (sweep (length m.vertices) k).0 (sweep (length m.vertices) k).1 → AreLowest m order far k → AreLowest m order new (k + 1)
 swept-more m order far new xs k num switch low are is all = record { each = λ j l. by j l (cases_order j k) }
   where
     n : ℕ
     n = length m.vertices
 
-    by : (j : ℕ) → j < k + 1 → (j ≡ k) ⊎ ((j < k) ⊎ (k < j)) → IsSettled m order new (sweep (length m.vertices) j).0 (sweep (length m.vertices) j).1
-    by j l (inl e) = subst (λ i. IsSettled m order new (sweep (length m.vertices) i).0 (sweep (length m.vertices) i).1) (sym e) (settled-after m order far new xs (sweep (length m.vertices) k).0 (sweep (length m.vertices) k).1 low are is)
+    by : (j : ℕ) → j < k + 1 → (j ≡ k) ⊎ ((j < k) ⊎ (k < j)) → IsLowest m order new (sweep (length m.vertices) j).0 (sweep (length m.vertices) j).1
+    by j l (inl e) = subst (λ i. IsLowest m order new (sweep (length m.vertices) i).0 (sweep (length m.vertices) i).1) (sym e) (settled-after m order far new xs (sweep (length m.vertices) k).0 (sweep (length m.vertices) k).1 low are is)
     by j l (inr (inl a)) = stays-settled m order far new xs (sweep (length m.vertices) j) (sweep (length m.vertices) k) num (swept-before (length m.vertices) j k a) switch low is (all.each j a)
     by j l (inr (inr a)) = absurd (omega arith)
 
 -- the same, where the place is known
-pub swept-at : (m : NetMap) (order far new : List ℕ) (xs : List Exit) (k v : ℕ) (down : Bool) → AreNumbered m order → sweep (length m.vertices) k ≡ (v, down) → is_switch_vertex m v ≡ true → place_in v down < length far → xs ≡ exits_of m order v → new ≡ lowered far xs v down → AreSettled m order far k → AreSettled m order new (k + 1)
+pub swept-at : (m : NetMap) (order far new : List ℕ) (xs : List Exit) (k v : ℕ) (down : Bool) → AreNumbered m order → sweep (length m.vertices) k ≡ (v, down) → is_switch_vertex m v ≡ true → place_in v down < length far → xs ≡ exits_of m order v → new ≡ lowered far xs v down → AreLowest m order far k → AreLowest m order new (k + 1)
 swept-at m order far new xs k v down num at switch low are is all =
     let vertex : v ≡ (sweep (length m.vertices) k).0 = ap (λ s. s.0) (sym at) in
     let kind : down ≡ (sweep (length m.vertices) k).1 = ap (λ s. s.1) (sym at) in
     swept-more m order far new xs k num (sym (ap (is_switch_vertex m) vertex) ∙ switch) (subst (λ (s : ℕ × Bool). place_in s.0 s.1 < length far) (sym at) low) (are ∙ ap (exits_of m order) vertex) (is ∙ (λ i. lowered far xs (vertex i) (kind i))) all
 
-pub swept-host : (m : NetMap) (order far : List ℕ) (k v : ℕ) (down : Bool) → sweep (length m.vertices) k ≡ (v, down) → is_switch_vertex m v ≡ false → AreSettled m order far k → AreSettled m order far (k + 1)
+pub swept-host : (m : NetMap) (order far : List ℕ) (k v : ℕ) (down : Bool) → sweep (length m.vertices) k ≡ (v, down) → is_switch_vertex m v ≡ false → AreLowest m order far k → AreLowest m order far (k + 1)
 swept-host m order far k v down at host all = all-settled-more m order far k all (settled-host m order far (sweep (length m.vertices) k).0 (sweep (length m.vertices) k).1 (ap (λ (s : ℕ × Bool). is_switch_vertex m s.0) at ∙ host))

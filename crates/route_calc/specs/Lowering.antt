@@ -45,7 +45,7 @@ pub record IsStep (m : NetMap) (order : List ℕ) (old new : List ℕ) (told : B
   pub same : told ≡ false → new ≡ old
 
 -- No legal channel of a switch leads to one that is more than one nearer.
-pub record IsSettled (m : NetMap) (order : List ℕ) (far : List ℕ) (v : ℕ) (down : Bool) : Type 0 where
+pub record IsLowest (m : NetMap) (order : List ℕ) (far : List ℕ) (v : ℕ) (down : Bool) : Type 0 where
   pub settled : is_switch_vertex m v ≡ true → (k : ℕ) (e : MapPort) → k < 31 → map_far m (port_of_place v k) ≡ Some e
       → may_go down (is_up m order (port_of_place v k)) ≡ true
       → far_at far v down ≤ far_at far e.v (not (is_up m order (port_of_place v k))) + 1
@@ -56,8 +56,8 @@ abbrev pub sweep : ℕ → ℕ → ℕ × Bool
 sweep count k = if nat_lt k count then (count - 1 - k, true) else (k - count, false)
 
 -- Nothing can be lowered at the first places of a sweep.
-pub record AreSettled (m : NetMap) (order : List ℕ) (far : List ℕ) (count : ℕ) : Type 0 where
-  pub each : (k : ℕ) → k < count → IsSettled m order far (sweep (length m.vertices) k).0 (sweep (length m.vertices) k).1
+pub record AreLowest (m : NetMap) (order : List ℕ) (far : List ℕ) (count : ℕ) : Type 0 where
+  pub each : (k : ℕ) → k < count → IsLowest m order far (sweep (length m.vertices) k).0 (sweep (length m.vertices) k).1
 
 -- Channels of a vertex between switches lead up to lesser numbers, and down to none that is lesser.
 pub record IsNumbered (m : NetMap) (order : List ℕ) (v : ℕ) : Type 0 where

@@ -12,7 +12,7 @@ ghost use Rattle.map_defs.specs.NetMap.{is_switch_vertex};
 ghost use Rattle.map_defs.specs.Orientation.{order_of};
 ghost use Rattle.route_calc.specs.Exits.{all_exits};
 ghost use Rattle.route_calc.specs.Far.{AreDistances, far_at, place_in};
-ghost use Rattle.route_calc.specs.Lowering.{IsStep, IsSettled, AreSettled, first_far, sweep, nearest_after, least_with};
+ghost use Rattle.route_calc.specs.Lowering.{IsStep, IsLowest, AreLowest, first_far, sweep, nearest_after, least_with};
 ghost use Rattle.route_calc.specs.Lowering.{AreNumbered, AreSound, lowers, lowered};
 ghost use Rattle.journal_defs.specs.Counting.{total};
 
@@ -65,7 +65,7 @@ fn lower_again(m: &FabricMap, exits: &[Exits], numbered: bool, far: &mut [u8]) -
     ensures long { length far.new ≡ length far.old }
     ensures sound { (to : ℕ) → AreSound m.now (order_of m.now) to far.old → AreSound m.now (order_of m.now) to far.new }
     ensures less { result ≡ true → total far.new < total far.old }
-    ensures settled { result ≡ false → AreSettled m.now (order_of m.now) far.new (2 * length m.now.vertices) }
+    ensures settled { result ≡ false → AreLowest m.now (order_of m.now) far.new (2 * length m.now.vertices) }
 {
     let lowers = lower_all(m, exits, far);
     if numbered { false } else { lowers }
@@ -78,9 +78,9 @@ fn lower_all(m: &FabricMap, exits: &[Exits], far: &mut [u8]) -> bool
     requires exits { exits.now ≡ all_exits m.now (order_of m.now) }
     requires long { length far.old ≡ 2 * length m.now.vertices }
     ensures step { IsStep m.now (order_of m.now) far.old far.new result }
-    ensures settled { result ≡ false → AreSettled m.now (order_of m.now) far.new (2 * length m.now.vertices) }
+    ensures settled { result ≡ false → AreLowest m.now (order_of m.now) far.new (2 * length m.now.vertices) }
     ensures swept { AreNumbered m.now (order_of m.now)
-        → AreSettled m.now (order_of m.now) far.new (2 * length m.now.vertices) }
+        → AreLowest m.now (order_of m.now) far.new (2 * length m.now.vertices) }
 {
     let count = m.vertices().len();
     let mut lowers = false;
@@ -112,9 +112,9 @@ fn lower_at(m: &FabricMap, exits: &[Exits], far: &mut [u8], v: usize, down: bool
     requires vertex { v < length m.now.vertices }
     requires long { length far.old ≡ 2 * length m.now.vertices }
     ensures step { IsStep m.now (order_of m.now) far.old far.new result }
-    ensures settled { result ≡ false → IsSettled m.now (order_of m.now) far.new v down }
+    ensures settled { result ≡ false → IsLowest m.now (order_of m.now) far.new v down }
     ensures swept { (k : ℕ) → AreNumbered m.now (order_of m.now) → sweep (length m.now.vertices) k ≡ (v, down)
-        → AreSettled m.now (order_of m.now) far.old k → AreSettled m.now (order_of m.now) far.new (k + 1) }
+        → AreLowest m.now (order_of m.now) far.old k → AreLowest m.now (order_of m.now) far.new (k + 1) }
 {
     let _ = m.vertices();
     if is_switch(m, v as u32) {

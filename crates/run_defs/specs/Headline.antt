@@ -49,16 +49,16 @@ pub record WasTrue (n : Network) (commands : List Command) (before : List Piece)
 
 -- a command over a fabric: it maps from a host of the fabric to at most 65 cables, maps its circuit links from a host
 -- of it, and plans flips of eight bits
-abbrev pub IsCommandOf : Network → Command → Type 0
-IsCommandOf n (Map host depth tries) = (host < length n.hosts) × (depth ≤ 65)
-IsCommandOf n (Circuit host depth) = host < length n.hosts
-IsCommandOf n (Plan ahead kind) = IsByteFault (fault_of kind)
-IsCommandOf n _ = Unit {0}
+abbrev pub FitsFabric : Network → Command → Type 0
+FitsFabric n (Map host depth tries) = (host < length n.hosts) × (depth ≤ 65)
+FitsFabric n (Circuit host depth) = host < length n.hosts
+FitsFabric n (Plan ahead kind) = IsByteFault (fault_of kind)
+FitsFabric n _ = Unit {0}
 
 -- every map that says complete was the mapper's part of the fabric before the command that printed it
 abbrev pub CompleteIsTrue : Network → List Command → Type 0
 CompleteIsTrue n commands =
-    IsFabric n → AllByRecursion (IsCommandOf n) commands
+    IsFabric n → AllByRecursion (FitsFabric n) commands
     → (out : List Piece) (last : SessionState) (mapper : ℕ) (m : NetMap) → IsRun n commands out last
     → (printed : HasPrinted out mapper m) → WasTrue n commands printed.before mapper m
 
@@ -75,13 +75,13 @@ abbrev pub DeepIsComplete : Network → List Command → Type 0
 DeepIsComplete n commands =
     (out : List Piece) (s : SessionState) (host depth tries : ℕ) (after : WorldState) (j : List Entry) (m : NetMap)
     (words : MapWords)
-    → IsFabric n → AllByRecursion (IsCommandOf n) commands → IsRun n commands out s
-    → IsCommandOf n (Map host depth tries) → IsMapped host depth tries s.world after j m words
+    → IsFabric n → AllByRecursion (FitsFabric n) commands → IsRun n commands out s
+    → FitsFabric n (Map host depth tries) → IsMapped host depth tries s.world after j m words
     → IsQuiet host s.world after
     → 1 ≤ tries → tries ≤ 8 → enough_depth (fabric_of s.world) host ≤ depth → words ≡ Complete
 
 -- The promise of a run.
-pub record IsPromised (n : Network) (commands : List Command) : Type 0 where
+pub record IsHeadline (n : Network) (commands : List Command) : Type 0 where
   pub complete : CompleteIsTrue n commands
   pub deep : DeepIsComplete n commands
   pub sound : AlwaysSound n

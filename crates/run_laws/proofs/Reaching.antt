@@ -32,7 +32,7 @@ use Rattle.run_defs.proofs.ByKind.EventsOf.{one as single, settles, revokes}
 use Rattle.run_defs.specs.Run.Runs.{ended, goes_on}
 use Rattle.act_defs.specs.Acts.{Happens, MayActAll, AreAdoptable}
 use Rattle.table_laws.proofs.Dependencies.{installed-no_cycle}
-use Rattle.run_defs.specs.Headline.{IsCommandOf}
+use Rattle.run_defs.specs.Headline.{FitsFabric}
 use Rattle.mapping_laws.specs.Runs.{IsSessionOf}
 use Rattle.mapping_laws.specs.Held.{HoldsRight}
 use Rattle.mapping_laws.proofs.Sessions.{does-keep, does-stays, new-session}
@@ -42,7 +42,7 @@ use Rattle.run_laws.proofs.Ranked.{right_routes_are_adoptable}
 use Rattle.install_laws.proofs.Leads.{Leads, leads-same, leads-both}
 
 -- such a command is one over the fabric
-command-of : (n : Network) (c : Command) → IsActOf n c → IsCommandOf n c
+command-of : (n : Network) (c : Command) → IsActOf n c → FitsFabric n c
 command-of n (Map host depth tries) is = is
 command-of n (Circuit host depth) is = is
 command-of n (Plan ahead kind) is = is.1

@@ -1,6 +1,6 @@
 use Rattle.std.proofs.Common.{◌<◌, sym, ◌∙◌, subst, arith}
 use Rattle.std.specs.Prelude.{Ok}
-use Rattle.mapper.specs.Growths.{HasGrown, IsToldOf, IsSettled}
+use Rattle.mapper.specs.Growths.{HasGrown, IsToldOf, IsSwept}
 use Rattle.mapper.proofs.Adding.{on-err}
 use Rattle.mapper.proofs.Sweeping.{short-settled}
 use Rattle.mapper.proofs.Starting.{grows-on, stops-on}
@@ -53,7 +53,7 @@ pub growing-smaller : goal.growing-smaller
 growing-smaller g c =
     let k = c.in_ok-expand_next.ensures in
     let rises : c.growing.next < c.expand_next.new.next = k.rises (λ i. Ok (c.if-branch.true i)) in
-    let settled : IsSettled c.expand_next.new.tree c.expand_next.new.next = k.goes_on (λ i. Ok (c.if-branch.true i)) in
+    let settled : IsSwept c.expand_next.new.tree c.expand_next.new.next = k.goes_on (λ i. Ok (c.if-branch.true i)) in
     let few = short-settled c.expand_next.new.tree c.expand_next.new.next settled in
     let within = settled.within in
     omega arith

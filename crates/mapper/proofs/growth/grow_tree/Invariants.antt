@@ -1,11 +1,11 @@
 use Rattle.std.proofs.Common.{◌≡◌, ◌≤◌, ◌-◌, []}
 use Rattle.net_defs.specs.Network.{IsFabric}
-use Rattle.mapper.specs.Growths.{GrowsBy, IsSettled}
+use Rattle.mapper.specs.Growths.{GrowsBy, IsSwept}
 use Rattle.mapper.proofs.growth.grow_tree.Given as goal
 
 abbrev pub invariant-growing : goal.invariant-growing
 invariant-growing g l = record {
-  settled : IsSettled l.tree l.next;
+  settled : IsSwept l.tree l.next;
   host : l.tree.journal.host ≡ g.P.Prober.mapper l.fn.p;
   depth : l.tree.depth ≡ l.fn.tree.depth;
   grown : GrowsBy g.P.Prober.State g.P.Prober.asked (g.P.Prober.fabric l.fn.p) (g.P.Prober.mapper l.fn.p) l.fn.tree.depth [] (g.P.Prober.state l.fn.p) (g.P.Prober.lost l.fn.p) l.tree.journal.entries (g.P.Prober.state l.p) (g.P.Prober.lost l.p);
