@@ -31,6 +31,7 @@ impl TurnList {
     }
 
     /// The same turns again. Few of them are copied with their places, whatever their number.
+    #[inline(always)]
     pub(crate) fn copied(&self, alloc: Global) -> Result<TurnList, AllocError>
         requires { FitsItsPlaces self.now }
         ensures turns { IfOk result (λ list. turns_in list ≡ turns_in self.now) }

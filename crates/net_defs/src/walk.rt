@@ -88,7 +88,8 @@ impl Walk {
         self.turns.turns()
     }
 
-    /// Another walk of the same turns.
+    /// Another walk of the same turns. Few are copied where the call stands.
+    #[inline(always)]
     pub fn copied(&self, alloc: Global) -> Result<Walk, AllocError>
         ensures { IfOk result (λ walk. walk ≡ self.now) }
     {

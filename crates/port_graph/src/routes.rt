@@ -71,7 +71,7 @@ impl RouteSet {
     pub fn copied(&self, alloc: Global) -> Result<RouteSet, AllocError>
         ensures { IfOk result (λ set. set ≡ self.now) }
     {
-        let mut routes = Vec::new(alloc);
+        let mut routes = Vec::with_capacity(alloc, self.routes.len())?;
         for r in self.list() {
             routes.push(r.copied(alloc)?)?;
         }

@@ -20,7 +20,7 @@ use run_defs::{Command, DuoEvent};
 const MAX_END: u8 = 1;
 
 // An event that a host alone names.
-#[derive(Clone, Copy, Debug, PartialEq, Eq)]
+#[derive(Clone, Copy)]
 enum AtEnd {
     Emit,
     Expire,

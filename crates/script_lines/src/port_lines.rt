@@ -29,7 +29,7 @@ const MAX_PRIO: u8 = 1;
 pub(crate) const MAX_LEN: u32 = 1_000_000;
 
 /// What a line asks of a port without further words.
-#[derive(Clone, Copy, Debug, PartialEq, Eq)]
+#[derive(Clone, Copy)]
 pub(crate) enum PortCall {
     Close,
     Poll,

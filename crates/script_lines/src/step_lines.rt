@@ -20,14 +20,14 @@ use run_defs::{Command, StepLine};
 pub(crate) const MAX_PORT: u8 = 15;
 
 // An event that a host alone names.
-#[derive(Clone, Copy, Debug, PartialEq, Eq)]
+#[derive(Clone, Copy)]
 enum HostStep {
     Inject,
     GiveUp,
 }
 
 // An event that a channel alone names.
-#[derive(Clone, Copy, Debug, PartialEq, Eq)]
+#[derive(Clone, Copy)]
 enum EndStep {
     Advance,
     Lose,
