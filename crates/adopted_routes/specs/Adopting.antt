@@ -11,7 +11,8 @@ use Rattle.net_defs.specs.Dependencies.{IsBefore}
 use Rattle.mapping_defs.specs.Mapping.{RoutePart}
 use Rattle.port_graph.specs.Routes.{AreShort}
 use Rattle.world_defs.specs.declared.standing.Standing.{Standing}
-use Rattle.world_defs.specs.Table.{Adoption, last_epoch, is_kept_in, may_adopt_in, part_count, entries_from, part_for, route_of}
+use Rattle.world_defs.specs.Table.{Adoption, last_epoch, is_kept_in, may_adopt_in, part_count, entries_from, part_for}
+use Rattle.world_defs.specs.Table.{route_of}
 use Rattle.adopted_routes.specs.declared.routes.AdoptRefusal.{AdoptRefusal}
 use Rattle.adopted_routes.specs.declared.routes.AdoptRefusal.TheVariants.{Unrevoked, Epochs}
 use Rattle.adopted_routes.specs.declared.routes.PartToSend.{PartToSend}

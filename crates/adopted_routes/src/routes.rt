@@ -1,6 +1,7 @@
 //! The routes that are adopted, if any are.
 
-ghost use Rattle.std.specs.Prelude.{◌≡◌, ◌+◌, true, Some, None, option_map, option_copied, IfOk, IfErr, IfSome, OnOk, OnErr};
+ghost use Rattle.std.specs.Prelude.{◌≡◌, ◌+◌, true, Some, None, option_map, option_copied, IfOk, IfErr, IfSome, OnOk};
+ghost use Rattle.std.specs.Prelude.{OnErr};
 ghost use Rattle.std.specs.Prelude.{if◌then◌else◌};
 ghost use Rattle.mapping_defs.specs.Mapping.{is_part};
 ghost use Rattle.port_graph.specs.Routes.{HandsBack};
@@ -77,7 +78,11 @@ impl AdoptedRoutes {
         standing: Standing,
     ) -> Result<Table, (RouteSet, AdoptRefusal)>
         ensures table { IfOk result (λ t. t
-            ≡ record { host = mapper; state = whole_table set mapper (adopted_in standing mapper set self.old).epoch }) }
+            ≡ record {
+              host = mapper;
+              state = whole_table set mapper
+                  (adopted_in standing mapper set self.old).epoch;
+            }) }
         ensures adopted { OnOk result (self.new ≡ Some (adopted_in standing mapper set self.old)) }
         ensures refused { HandsBack (adopt_refusal standing set self.old) AdoptRefusal.NoMemory set result }
         ensures unchanged { OnErr result (self.new ≡ self.old) }
@@ -190,7 +195,11 @@ impl AdoptedRoutes {
     ) -> Result<Table, (RouteSet, AdoptRefusal)>
         requires { adopt_refusal standing set self.old ≡ None }
         ensures table { IfOk result (λ t. t
-            ≡ record { host = mapper; state = whole_table set mapper (adopted_in standing mapper set self.old).epoch }) }
+            ≡ record {
+              host = mapper;
+              state = whole_table set mapper
+                  (adopted_in standing mapper set self.old).epoch;
+            }) }
         ensures adopted { OnOk result (self.new ≡ Some (adopted_in standing mapper set self.old)) }
         ensures back { IfErr result (λ e. (e.0 ≡ set) × (e.1 ≡ AdoptRefusal.NoMemory)) }
         ensures unchanged { OnErr result (self.new ≡ self.old) }

@@ -1,7 +1,7 @@
 //! What is judged of an answer by those before it, apart from the lines that it is read from.
 //!
-//! It reads no line, and knows no world. `answer_defs` says what is right of an answer; `specs/Ledgers.antt` what a line
-//! leaves in the ledgers, `specs/Checks.antt` what is found of routes.
+//! It reads no line, and knows no world. `answer_defs` says what is right of an answer; `specs/Ledgers.antt` what a
+//! line leaves in the ledgers, `specs/Checks.antt` what is found of routes.
 //!
 //! ```text
 //!   send a 0 token 0                       accepted: client a 0 held token 0, and the message waits on its lane

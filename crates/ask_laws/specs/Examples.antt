@@ -34,5 +34,6 @@ parting = (planned (new_world two_hosts) 1 (Pull (switch_end 0 5))).1
 -- the ask drowns, and in the world that it leaves a mapper that was made before drowns, and one that is made then not
 abbrev pub PulledAskDrowns : Type 0
 PulledAskDrowns =
-    ((ask 0 0 2 across parting).value.drowned ≡ true) × ((ask 0 0 1 across (ask 0 0 2 across parting).world).value.drowned ≡ true)
+    ((ask 0 0 2 across parting).value.drowned ≡ true)
+    × ((ask 0 0 1 across (ask 0 0 2 across parting).world).value.drowned ≡ true)
     × ((ask 1 0 1 across (ask 0 0 2 across parting).world).value.drowned ≡ false)

@@ -1,12 +1,14 @@
 -- A walk over fewer cables crosses the first of the channels that it crosses over more, and ends where it ends there.
-use Rattle.std.specs.Prelude.{◌≡◌, ◌≢◌, ◌≤◌, ℕ, ℤ, true, Bool, nat_le, slice_get, List, [], ◌∷◌, ◌++◌, Option, Some, None}
+use Rattle.std.specs.Prelude.{◌≡◌, ◌≢◌, ◌≤◌, ℕ, ℤ, true, Bool, nat_le, slice_get, List, [], ◌∷◌, ◌++◌, Option, Some}
+use Rattle.std.specs.Prelude.{None}
 use Rattle.std.specs.List.{AllByRecursion}
 use Rattle.net_defs.specs.declared.place.Place.TheVariants.{Nothing}
 use Rattle.net_defs.specs.declared.vertex.End.{End}
 use Rattle.net_defs.specs.Network.{IsFabric}
 use Rattle.net_defs.specs.Route.{place, entered_after}
 use Rattle.cable_history.specs.declared.wire.Wire.{Wire}
-use Rattle.cable_history.specs.History.{CableHistory, fabric_by, fabric_at, stood_at, is_in_place, is_left, with_pulled, with_plugged}
+use Rattle.cable_history.specs.History.{CableHistory, fabric_by, fabric_at, stood_at, is_in_place, is_left}
+use Rattle.cable_history.specs.History.{with_pulled, with_plugged}
 use Rattle.cable_history.specs.Crossed.{channels_by}
 
 -- the same cables by number, of which those that pass one test pass the other too

@@ -1,7 +1,8 @@
 -- What later changes leave of the cables: pulls alone, or pulls and plugs, one after another.
 use Rattle.std.specs.Prelude.{◌≡◌, ℕ, ◌<◌, ◌≤◌, true, ℤ, List}
 use Rattle.net_defs.specs.declared.vertex.End.{End}
-use Rattle.cable_history.specs.History.{CableHistory, IsHistory, fabric_at, is_in_place, is_left, may_plug, with_plugged}
+use Rattle.cable_history.specs.History.{CableHistory, IsHistory, fabric_at, is_in_place, is_left, may_plug}
+use Rattle.cable_history.specs.History.{with_plugged}
 use Rattle.cable_history.specs.Crossed.{channels_at, life_channels, life_tail, life_head, is_new, is_cut, pulled_at}
 use Rattle.cable_history.specs.Fewer.{HasFewer}
 

@@ -4,8 +4,10 @@ use Rattle.net_defs.specs.declared.vertex.End.{End}
 use Rattle.net_defs.specs.Network.{Network, IsFabric, far, has_port}
 use Rattle.net_defs.specs.Route.{channel_from, channels_of}
 use Rattle.cable_history.specs.declared.wire.Wire.{Wire}
-use Rattle.cable_history.specs.History.{CableHistory, IsHistory, first_history, fabric_now, fabric_at, fabric_left, cable_limit, may_plug, with_plugged, with_pulled, with_accepted}
-use Rattle.cable_history.specs.Crossed.{leaving, channels_at, life_channels, life_tail, life_head, is_standing, is_new, pulled_at}
+use Rattle.cable_history.specs.History.{CableHistory, IsHistory, first_history, fabric_now, fabric_at, fabric_left}
+use Rattle.cable_history.specs.History.{cable_limit, may_plug, with_plugged, with_pulled, with_accepted}
+use Rattle.cable_history.specs.Crossed.{leaving, channels_at, life_channels, life_tail, life_head, is_standing}
+use Rattle.cable_history.specs.Crossed.{is_new, pulled_at}
 
 -- the history of a fabric before any change is one
 abbrev pub FirstIsHistory : Type 0

@@ -7,7 +7,8 @@ ghost use Rattle.cable_history.specs.Laws.{PullAtKeepsHistory, PlugKeepsHistory,
 ghost use Rattle.cable_history.specs.Later.{PulledIsLater, LaterOnIsLater, PulledOnIsPulled, LaterKeeps};
 ghost use Rattle.cable_history.specs.Later.{LaterKeepsChannels, LaterKeepsPast, LaterKeepsPastChannels};
 ghost use Rattle.cable_history.specs.Later.{PulledLeaveFewer, UnchangedIsSame};
-ghost use Rattle.cable_history.specs.Laws.{LastIsNow, LeavingHasItsEnd, StandingLeavesItsTail, EndsAreForLife, EndsAreThere};
+ghost use Rattle.cable_history.specs.Laws.{LastIsNow, LeavingHasItsEnd, StandingLeavesItsTail, EndsAreForLife};
+ghost use Rattle.cable_history.specs.Laws.{EndsAreThere};
 
 /// Before any change the fabric stands as it ever stood, and its channels are those of its cables.
 pub fn first_histories()

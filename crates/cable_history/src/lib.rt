@@ -1,9 +1,10 @@
 //! The history of a fabric's cables: each has its number for life, the change that plugged it and the one that pulled
 //! it, so that the fabric as it stands and as it stood are read off one list.
 //!
-//! This crate holds definitions, laws, and the small type that they speak of. It holds no fabric's cables in memory: that is `fabric_wiring`.
-//! `specs/History.antt` says what a history is and what changes it, `specs/Crossed.antt` which channels it has,
-//! `specs/Fewer.antt` what walks over fewer cables keep of walks over more, `specs/Later.antt` what later changes keep.
+//! This crate holds definitions, laws, and the small type that they speak of. It holds no fabric's cables in memory:
+//! that is `fabric_wiring`. `specs/History.antt` says what a history is and what changes it, `specs/Crossed.antt` which
+//! channels it has, `specs/Fewer.antt` what walks over fewer cables keep of walks over more, `specs/Later.antt` what
+//! later changes keep.
 //!
 //! ```text
 //!   changes          0          1 pull         2 plug        accept

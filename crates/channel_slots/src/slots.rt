@@ -1,7 +1,8 @@
 //! The packets in the channels.
 
 ghost use Rattle.std.specs.Prelude.{◌≡◌, ◌<◌, ◌≤◌, ◌+◌, length, replicate, not, ◌&&◌, if◌then◌else◌, slice_index_or};
-ghost use Rattle.std.specs.Prelude.{List, [], ◌∷◌, ◌++◌, slice_set, Option, Some, None, is_some, is_none, option_copied};
+ghost use Rattle.std.specs.Prelude.{List, [], ◌∷◌, ◌++◌, slice_set, Option, Some, None, is_some, is_none};
+ghost use Rattle.std.specs.Prelude.{option_copied};
 ghost use Rattle.std.specs.Prelude.{IfOk, IfSome, IfNone, OnOk, OnErr, false, ◌≢◌};
 ghost use Rattle.std.specs.List.{list_all};
 ghost use Rattle.packet_defs.specs.Burst.{flipped, may_flip};

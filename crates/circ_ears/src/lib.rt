@@ -14,8 +14,8 @@
 //! A path from x to y has its return walk where one walk comes from the mapper's host to x and another leads from y to
 //! some host, with no cable in common; or the other way round. A path that ends at a host of its own needs the first
 //! alone. That there are such walks is a law of path lists (`specs/Laws.antt`), and the code follows its proof:
-//! `TwoWalks`, `Inner` (paths read backwards), `Returns`, `Short`, `Onward` (where a cable of the core is left, there is
-//! a next path), `Telltale` (what is of the core can be told), `Existing`, in `proofs/`.
+//! `TwoWalks`, `Inner` (paths read backwards), `Returns`, `Short`, `Onward` (where a cable of the core is left, there
+//! is a next path), `Telltale` (what is of the core can be told), `Existing`, in `proofs/`.
 //!
 //! | module | has |
 //! |---|---|

@@ -1,10 +1,10 @@
 //! Classes of replicates, joined pair by pair of ports until no pair is open.
 //!
-//! It knows no journal: it is told of nodes and of the ways between their ports. `specs/Rounds.antt` says what it keeps while pairs are
-//! open, and `specs/Table.antt` what classes are and when they stand for a journal.
+//! It knows no journal: it is told of nodes and of the ways between their ports. `specs/Rounds.antt` says what it keeps
+//! while pairs are open, and `specs/Table.antt` what classes are and when they stand for a journal.
 //!
-//! Pairs of ports that are one are joined one after another: the ports of the one class become ports of the other, and where both have
-//! a far end at one port, these two ends are the next pair. So each way costs what it changes.
+//! Pairs of ports that are one are joined one after another: the ports of the one class become ports of the other, and
+//! where both have a far end at one port, these two ends are the next pair. So each way costs what it changes.
 //!
 //! | module | has |
 //! |---|---|

@@ -53,7 +53,8 @@ SixProbesAreInCounters =
     (six_strikes ≡ RepeatFault ∷ LoseFault ∷ [])
     × (six_world.injected ≡ 6) × (six_world.dropped ≡ 1) × (six_world.struck ≡ 2) × (six_world.harmed ≡ 1)
 
--- A probe is copied, and then its cable is pulled. Over a new cable the next is injected, and a planned pull takes that.
+-- A probe is copied, and then its cable is pulled. Over a new cable the next is injected, and a planned pull takes
+-- that.
 abbrev pub pulled_probes : List Act
 pulled_probes =
     probe [] ++ Happens (Repeat 0) ∷ Happens (Pull (host_end 0)) ∷ Happens (Plug (host_end 0) (switch_end 0 2))

@@ -69,7 +69,8 @@ SettleDelivers =
 abbrev pub SettledIsSeen : Type 0
 SettledIsSeen =
     (w : WorldState) → CanSettle w → (settle w).world.injected < last_count → HasEnough w → HasPaths w (settle w).world
-    → (is : IsReached (fabric_at w.links.cables 0) (settle w).world) (c : ConnectionKey) (port : ℕ) → c.prio < prio_limit
+    → (is : IsReached (fabric_at w.links.cables 0) (settle w).world) (c : ConnectionKey) (port : ℕ)
+    → c.prio < prio_limit
     → filter (is_on c.src c.prio)
     (handed_in c.dst port (new_world (fabric_at w.links.cables 0)) is.acts
     ++ waiting_in (port_at (node_at (settle w).world c.dst) port))

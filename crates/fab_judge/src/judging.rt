@@ -1,6 +1,7 @@
 //! The judgement of a report, command by command.
 
-ghost use Rattle.std.specs.Prelude.{◌≡◌, ◌↔◌, ◌≤◌, ◌<◌, ◌+◌, ◌-◌, ◌⊎◌, ℕ, List, [], length, IfOk, IsErrOf, IsOk, Ok, Err};
+ghost use Rattle.std.specs.Prelude.{◌≡◌, ◌↔◌, ◌≤◌, ◌<◌, ◌+◌, ◌-◌, ◌⊎◌, ℕ, List, [], length, IfOk, IsErrOf, IsOk, Ok};
+ghost use Rattle.std.specs.Prelude.{Err};
 ghost use Rattle.fab_text.specs.Line.{line_count, lines_left};
 ghost use Rattle.fab_text.specs.declared.fault.FaultKind.{FaultKind};
 ghost use Rattle.fabric_file.specs.Reading.{fabric_reading};

@@ -1,6 +1,7 @@
 //! Reading to the end and writing all.
 
-ghost use Rattle.std.specs.Prelude.{◌≡◌, ◌≢◌, ◌<◌, ◌≤◌, ◌+◌, ◌++◌, [], length, vec_len, vec_capacity, Ok, IfOk, IfErr, OnOk, OnErr};
+ghost use Rattle.std.specs.Prelude.{◌≡◌, ◌≢◌, ◌<◌, ◌≤◌, ◌+◌, ◌++◌, [], length, vec_len, vec_capacity, Ok, IfOk};
+ghost use Rattle.std.specs.Prelude.{IfErr, OnOk, OnErr};
 ghost use Rattle.std.specs.Prelude.{IsErrOf};
 ghost use Rattle.std.specs.Io.KnownBytes.{Appends, Consumes, IsAtEnd};
 ghost use Rattle.fab_outer.specs.Fault.{Rose, HasCause};
@@ -27,8 +28,8 @@ pub struct WriteFault;
 // The most bytes that one read asks for.
 const PIECE: usize = 65536;
 
-/// All the bytes of a source, of which at most `limit` may come. `TooLong` exactly where one more came, which is the last
-/// that is read.
+/// All the bytes of a source, of which at most `limit` may come. `TooLong` exactly where one more came, which is the
+/// last that is read.
 ///
 /// It takes room for `limit` bytes before it reads any, so `NoMemory` leaves the source as it was.
 pub fn read_all<S: Source>(alloc: Global, source: &mut S, limit: usize) -> Result<Vec<u8>, ReadEnd>

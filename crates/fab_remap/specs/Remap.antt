@@ -1,6 +1,7 @@
 -- What the calls of this crate answer: why two ports aren't joined, how many hosts give up their epoch, and which of
 -- the adopted routes are broken.
-use Rattle.std.specs.Prelude.{ℕ, Bool, true, false, ◌&&◌, nat_lt, List, map, length, is_some, is_none, if◌then◌else◌, Option}
+use Rattle.std.specs.Prelude.{ℕ, Bool, true, false, ◌&&◌, nat_lt, List, map, length, is_some, is_none, if◌then◌else◌}
+use Rattle.std.specs.Prelude.{Option}
 use Rattle.std.specs.Prelude.{Some, None}
 use Rattle.std.specs.List.{filter}
 use Rattle.net_defs.specs.declared.vertex.End.{End}

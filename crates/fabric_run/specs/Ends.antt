@@ -96,9 +96,9 @@ pub record Moment : Type 0 where
   pub left : Option (List ℕ)
   pub taken : Option (List ℕ)
 
--- How the work on a text with its report may end. Of one whose part up to `end` is accepted the line of the right verdict
--- was taken, or a prefix of it, but not all, before a failed write; of another the line that reports the first fault of
--- that part. Where memory ran out nothing was written.
+-- How the work on a text with its report may end. Of one whose part up to `end` is accepted the line of the right
+-- verdict was taken, or a prefix of it, but not all, before a failed write; of another the line that reports the first
+-- fault of that part. Where memory ran out nothing was written.
 abbrev pub JudgedEnds : List ℕ → Result JudgedText FirstFault → Type 0 → Option (List ℕ) → Option (List ℕ) → Status
     → Option SessionState → Type 0
 JudgedEnds text (Ok j) unwritten taken now Done None =
@@ -117,9 +117,9 @@ Work = List ℕ → Status → Option SessionState → Type 0
 abbrev pub SomeTextEnds : Work → Moment → Moment → Status → Option SessionState → Type 0
 SomeTextEnds Ends before now status held = (text : List ℕ) × Came before.left now.left text × Ends text status held
 
--- How a run of the form `run` or `judge` may end. A read failed, or more bytes came than an input may have; or memory ran
--- out before a byte was read, and the input is as it was: nothing was written then. Else a text came whole, and the work
--- on it ended.
+-- How a run of the form `run` or `judge` may end. A read failed, or more bytes came than an input may have; or memory
+-- ran out before a byte was read, and the input is as it was: nothing was written then. Else a text came whole, and the
+-- work on it ended.
 abbrev pub InputEnds : Work → Type 0 → Type 0 → Moment → Moment → Status → Option SessionState → Type 0
 InputEnds Ends unread unwritten before now Usage held = ⊥
 InputEnds Ends unread unwritten before now ReadFault held = unwritten × (held ≡ None)

@@ -47,8 +47,8 @@ judgement_of (Err f) = Refused f.line f.kind
 abbrev pub own_judgement : List ℕ → Status
 own_judgement text = if nat_lt input_limit (length text) then TooLong else judgement_of (judged_text text)
 
--- A text whose report says enough: it ends with LF, so its report begins a line, and no command is of the two hosts that
--- restart, or plans a pull of a cable.
+-- A text whose report says enough: it ends with LF, so its report begins a line, and no command is of the two hosts
+-- that restart, or plans a pull of a cable.
 pub record IsJudgeable (text : List ℕ) (a : AcceptedText) : Type 0 where
   pub bytes : List ℕ
   pub ended : text ≡ bytes ++ 10 ∷ []

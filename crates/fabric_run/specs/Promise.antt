@@ -71,8 +71,8 @@ ReceivedLinesAreOfSends a = (count : ℕ) (out : List Piece) (last : SessionStat
     → IsRun a.network (take count a.commands) out last
     → AreReceivedAsSent a.network (take count a.commands) out last.world
 
--- The promise of an accepted text. Its commands have a run, and one, whose text is the report. Each command is one deed,
--- of acts that may happen, and what its lines say is true; complete maps of one host are one while the fabric
+-- The promise of an accepted text. Its commands have a run, and one, whose text is the report. Each command is one
+-- deed, of acts that may happen, and what its lines say is true; complete maps of one host are one while the fabric
 -- stands alike. Each world after first commands, and after each prefix of the acts of the next one, is reached; each
 -- world that is reached is sound. What polls handed out is a prefix of what sends were accepted with, and what the
 -- lines `received` show, of what the `send` lines with a token handed in; a sent event that waits has the bytes of the

@@ -1,6 +1,7 @@
 //! Cables are pulled, plugged and accepted.
 
-ghost use Rattle.std.specs.Prelude.{◌≡◌, ◌<◌, ◌+◌, ◌/◌, true, false, length, slice_get, slice_set, Some, None, option_map};
+ghost use Rattle.std.specs.Prelude.{◌≡◌, ◌<◌, ◌+◌, ◌/◌, true, false, length, slice_get, slice_set, Some, None};
+ghost use Rattle.std.specs.Prelude.{option_map};
 ghost use Rattle.std.specs.Prelude.{IfOk, OnOk, OnErr, if◌then◌else◌, is_some, ◌||◌};
 ghost use Rattle.net_defs.specs.Network.{has_port, same_end};
 ghost use Rattle.cable_history.specs.History.{fabric_now, may_plug, with_plugged, with_accepted};
@@ -34,8 +35,8 @@ impl Wiring {
         Some(k)
     }
 
-    /// Joins two ports by a new cable: false exactly where one of them isn't there or has a cable, the two are equal, or
-    /// 4,096 cables were named. Where memory runs out nothing has changed.
+    /// Joins two ports by a new cable: false exactly where one of them isn't there or has a cable, the two are equal,
+    /// or 4,096 cables were named. Where memory runs out nothing has changed.
     pub fn plug(&mut self, a: End, b: End) -> Result<bool, AllocError>
         ensures plugged { IfOk result (λ plugged. plugged ≡ may_plug self.old a b) }
         ensures history { OnOk result (self.new ≡ (if may_plug self.old a b then with_plugged self.old a b

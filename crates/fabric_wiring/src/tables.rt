@@ -1,6 +1,7 @@
 //! The tables of a wiring: building them, reading them, and putting a channel at a port.
 
-ghost use Rattle.std.specs.Prelude.{◌≡◌, ◌<◌, ◌≤◌, ℕ, ◌+◌, ◌*◌, slice_get, slice_set, replicate, length, map, true, Some, None};
+ghost use Rattle.std.specs.Prelude.{◌≡◌, ◌<◌, ◌≤◌, ℕ, ◌+◌, ◌*◌, slice_get, slice_set, replicate, length, map, true};
+ghost use Rattle.std.specs.Prelude.{Some, None};
 ghost use Rattle.std.specs.Prelude.{slice_index_or, IfOk, IfSome};
 ghost use Rattle.std.specs.List.{AllByRecursion};
 ghost use Rattle.net_defs.specs.Network.{ends_of};

@@ -12,8 +12,8 @@ use std::marker::Model;
 // One more than the greatest number of a word.
 const WORD: u128 = 18_446_744_073_709_551_616;
 
-/// The number of an injection, in two words. Most keys have the same upper word, so a comparison is one of words; one of
-/// 128 bits takes twice as long, and a search through many faults hardly does anything else.
+/// The number of an injection, in two words. Most keys have the same upper word, so a comparison is one of words; one
+/// of 128 bits takes twice as long, and a search through many faults hardly does anything else.
 #[derive(Drop)]
 pub(crate) struct Key {
     upper: u64,

@@ -134,7 +134,8 @@ pub fn message_in_two_fragments()
     ensures other_host { can_take filling_port (record last_part { src = 2 }) ≡ false }
     ensures other_first { provided_of (delivered filling_port (record first_part { src = 2 }) (replicate 1016 8))
         ≡ 0 ∷ 1 ∷ [] }
-    ensures both_filling { filling_count (delivered filling_port (record first_part { src = 2 }) (replicate 1016 8)) ≡ 2 }
+    ensures both_filling { filling_count (delivered filling_port (record first_part { src = 2 }) (replicate 1016 8))
+        ≡ 2 }
     ensures whole { next_event filled_port
         ≡ Some (PortEvent.Received 0 (replicate 1017 7 ++ replicate 1023 0) 0 0 0 1017) }
     ensures other_left { provided_of filled_port ≡ 1 ∷ [] }

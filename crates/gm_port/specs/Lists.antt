@@ -1,5 +1,6 @@
 -- What the lists of provided tokens and of events hold besides what contracts see.
-use Rattle.std.specs.Prelude.{◌≡◌, ℕ, ◌≤◌, Bool, false, List, [], length, map, find, nat_eq, is_some, Option, Some, None}
+use Rattle.std.specs.Prelude.{◌≡◌, ℕ, ◌≤◌, Bool, false, List, [], length, map, find, nat_eq, is_some, Option, Some}
+use Rattle.std.specs.Prelude.{None}
 use Rattle.std.specs.List.{AllByRecursion, list_any}
 use Rattle.gm_tokens.specs.Token.{Token}
 use Rattle.gm_defs.specs.declared.frame.FrameHead.{FrameHead}

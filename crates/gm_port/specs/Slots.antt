@@ -1,5 +1,6 @@
 -- The slots of a port's unfinished sends: the keys that a slab gave them, by ticket, and what is held under the keys.
-use Rattle.std.specs.Prelude.{◌≡◌, ℕ, ◌≤◌, List, [], ◌∷◌, length, map, Option, Some, None, is_some, slice_index_or, refl}
+use Rattle.std.specs.Prelude.{◌≡◌, ℕ, ◌≤◌, List, [], ◌∷◌, length, map, Option, Some, None, is_some, slice_index_or}
+use Rattle.std.specs.Prelude.{refl}
 use Rattle.std.specs.List.{count_by}
 use Rattle.slab.specs.Slab.{Slab, get, slab_len}
 use Rattle.gm_tokens.specs.Token.{Token}

@@ -142,7 +142,8 @@ impl Items {
         }
     }
 
-    /// A probe or a part that was told to send stands no more. It stands in its callers, in which most often none stood.
+    /// A probe or a part that was told to send stands no more. It stands in its callers, in which most often none
+    /// stood.
     #[inline(always)]
     pub fn unstage(&mut self)
         ensures { self.new ≡ record self.old { staged = None } }

@@ -4,8 +4,10 @@ use Rattle.net_defs.specs.Network.{Network}
 use Rattle.gm_defs.specs.Fragment.{piece_count}
 use Rattle.gm_defs.specs.Port.{is_too_long}
 use Rattle.world_defs.specs.declared.event.Event.{Event}
-use Rattle.world_defs.specs.declared.event.Event.TheVariants.{Ask, Part, Inject, Advance, Lose, Repeat, Hold, Flip, Replay}
-use Rattle.world_defs.specs.declared.event.Event.TheVariants.{Reset, Expire, GiveUp, Begin, Close, Provide, Send, Poll, Revoke}
+use Rattle.world_defs.specs.declared.event.Event.TheVariants.{Ask, Part, Inject, Advance, Lose, Repeat, Hold, Flip}
+use Rattle.world_defs.specs.declared.event.Event.TheVariants.{Replay}
+use Rattle.world_defs.specs.declared.event.Event.TheVariants.{Reset, Expire, GiveUp, Begin, Close, Provide, Send}
+use Rattle.world_defs.specs.declared.event.Event.TheVariants.{Poll, Revoke}
 use Rattle.world_defs.specs.declared.event.Event.TheVariants.{Pull, Plug}
 use Rattle.world_defs.specs.Node.{NodeState, lane_of, lane_at}
 use Rattle.world_defs.specs.World.{WorldState, new_world, node_at}

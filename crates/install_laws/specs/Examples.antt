@@ -46,8 +46,8 @@ abbrev pub SecondTryCounts : Type 0
 SecondTryCounts = ((install setup_adoption both_hosts 2 (losing 1)).value ≡ 2)
     × ((install setup_adoption both_hosts 2 (losing 2)).value ≡ 2)
 
--- where the cable of host 1 is pulled at the injection of its part, two tries miss it: no fault harmed, but its route is
--- broken
+-- where the cable of host 1 is pulled at the injection of its part, two tries miss it: no fault harmed, but its route
+-- is broken
 abbrev pub CutHostIsMissed : Type 0
 CutHostIsMissed =
     ((install setup_adoption both_hosts 2 (planned adopted_world 1 (Pull (host_end 1))).1).value ≡ 1)

@@ -32,8 +32,8 @@ RightRoutesAreShort =
     → IsMapOfPart n host m → AreRoutesOf m (order_of m) routes
     → AllByRecursion (λ r. length r.walk ≤ 64) routes
 
--- The last routes of a run are those of a map of a host that was right in the fabric as it stood when the map began, and
--- their hosts are of that map.
+-- The last routes of a run are those of a map of a host that was right in the fabric as it stood when the map began,
+-- and their hosts are of that map.
 pub record IsSetOfMap (h : CableHistory) (l : LastRoutes) : Type 0 where
   pub made : NetMap
   pub past : l.began ≤ h.changes

@@ -41,8 +41,8 @@ pub fn judged_reports()
     ensures text { TextsAreJudgedYes }
 {}
 
-/// Two hosts at one switch, one of which is moved to another port, and a port of a client that opens and closes: what is
-/// printed is judged yes.
+/// Two hosts at one switch, one of which is moved to another port, and a port of a client that opens and closes: what
+/// is printed is judged yes.
 pub fn judged_report()
     ensures { ReportIsJudgedYes }
 {}

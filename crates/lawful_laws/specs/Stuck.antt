@@ -15,7 +15,8 @@ LawfulIsNotStuck = (n : Network) (w : WorldState) → IsReached n w → IsLawful
 
 -- so a drain leaves them idle
 abbrev pub LawfulDrainsIdle : Type 0
-LawfulDrainsIdle = (n : Network) (w : WorldState) → IsReached n w → IsLawfulTraffic w → is_idle (drain w).world.links ≡ true
+LawfulDrainsIdle = (n : Network) (w : WorldState) → IsReached n w → IsLawfulTraffic w
+    → is_idle (drain w).world.links ≡ true
 
 -- and a clear resets no channel
 abbrev pub LawfulNeedsNoReset : Type 0

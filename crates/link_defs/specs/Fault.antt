@@ -1,5 +1,7 @@
--- What a cable may do to a packet: lose, copy, delay or flip it. What becomes of packets where a cable is pulled. Limbo keeps what is copied or delayed, until a replay.
-use Rattle.std.specs.Prelude.{ℕ, ◌+◌, ◌-◌, ◌*◌, ◌/◌, ◌^◌, min, Bool, true, false, not, ◌&&◌, nat_eq, nat_le, List, [], ◌∷◌, ◌++◌, find, slice_set}
+-- What a cable may do to a packet: lose, copy, delay or flip it. What becomes of packets where a cable is pulled. Limbo
+-- keeps what is copied or delayed, until a replay.
+use Rattle.std.specs.Prelude.{ℕ, ◌+◌, ◌-◌, ◌*◌, ◌/◌, ◌^◌, min, Bool, true, false, not, ◌&&◌, nat_eq, nat_le, List, []}
+use Rattle.std.specs.Prelude.{◌∷◌, ◌++◌, find, slice_set}
 use Rattle.std.specs.List.{filter}
 use Rattle.std.specs.Prelude.{if◌then◌else◌, Option, Some, None, option_map, is_some}
 use Rattle.std.specs.Map.{lookup, remove_entry}

@@ -1,5 +1,5 @@
--- The links of cables that come and go: each channel holds one packet or none, and limbo holds packets that were taken or copied
--- from a channel.
+-- The links of cables that come and go: each channel holds one packet or none, and limbo holds packets that were taken
+-- or copied from a channel.
 use Rattle.std.specs.Prelude.{ℕ, Bool, true, false, List, [], replicate, slice_index_or, slice_set, Option, Some, None}
 use Rattle.std.specs.Prelude.{is_some, is_none, if◌then◌else◌}
 use Rattle.std.specs.List.{list_all}

@@ -6,7 +6,8 @@ ghost use Rattle.cable_history.specs.History.{first_history};
 ghost use Rattle.link_defs.specs.Switch.{aim, after_aim};
 ghost use Rattle.link_defs.specs.Links.{packet_in, empty_links, is_idle, put};
 ghost use Rattle.link_defs.specs.Advance.{advance, course};
-ghost use Rattle.link_defs.specs.Fault.{lose, reset, repeat, hold, flip, replay, next_limbo, caught_as, pull, plug, accept};
+ghost use Rattle.link_defs.specs.Fault.{lose, reset, repeat, hold, flip, replay, next_limbo, caught_as, pull, plug};
+ghost use Rattle.link_defs.specs.Fault.{accept};
 ghost use Rattle.link_defs.specs.Hops.{hops_left, total_hops, is_stuck};
 ghost use Rattle.link_defs.specs.Lone.{lone_place};
 ghost use Rattle.net_defs.specs.declared.place.Place.{Place};
@@ -73,7 +74,8 @@ pub fn places_of_lone_packets()
     ensures back { lone_place 2 (first_history two_hosts) 0 (probe (pos 0 ∷ [])) ≡ Place.Host 0 }
     ensures outside { lone_place 2 (first_history two_hosts) 0 (probe (pos 6 ∷ [])) ≡ Place.Nothing }
     ensures past_a_host { lone_place 3 (first_history two_hosts) 0 (probe (pos 3 ∷ pos 1 ∷ [])) ≡ Place.Nothing }
-    ensures self_cabled { lone_place 4 (first_history self_cabled) 0 (probe (pos 3 ∷ pos 1 ∷ negsuc 0 ∷ [])) ≡ Place.Switch 1 2 }
+    ensures self_cabled { lone_place 4 (first_history self_cabled) 0 (probe (pos 3 ∷ pos 1 ∷ negsuc 0 ∷ []))
+        ≡ Place.Switch 1 2 }
 {}
 
 /// What a cable may do to the packet of host 0.
@@ -117,7 +119,8 @@ pub fn changed_cables()
     ensures plugged { (plug without_b (host_end 1) (switch_end 0 5)).0 ≡ true }
     ensures used_port { plug with_b (host_end 1) (switch_end 0 4) ≡ (false, with_b) }
     ensures probe_enters { (advance with_b 0).0 ≡ Moved.To 5 }
-    ensures message_is_dropped { course with_b.cables 0 (packet_of (pos 3 ∷ []) Kind.Gm []) ≡ Course.Drops Why.NewCable }
+    ensures message_is_dropped { course with_b.cables 0 (packet_of (pos 3 ∷ []) Kind.Gm [])
+        ≡ Course.Drops Why.NewCable }
     ensures accepted { course (accept with_b).cables 0 (packet_of (pos 3 ∷ []) Kind.Gm []) ≡ Course.Enters 5 }
     ensures next_epoch { (accept with_b).epoch ≡ 1 }
     ensures born_then { packet_in (put (accept with_b) 1 []).1 1

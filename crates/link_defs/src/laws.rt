@@ -3,8 +3,10 @@
 
 ghost use Rattle.link_defs.specs.Laws.{AdvanceLowersHops, StillAdvance};
 ghost use Rattle.link_defs.specs.Laws.{NoHopsIsIdle, StuckIsStill, StillIsStuck, RefusedPut, IdleLose, IdleReset};
-ghost use Rattle.link_defs.specs.Laws.{IdleRepeat, IdleHold, IdleFlip, IdleReplay, IdlePull, IdlePlug, EmptyIsLinks, EmptyIsIdle};
-ghost use Rattle.link_defs.specs.Laws.{StepKeepsCables, StepKeepsVertices, StepKeepsHistory, StepKeepsLinks, StepsKeepCables, StepsKeepLinks};
+ghost use Rattle.link_defs.specs.Laws.{IdleRepeat, IdleHold, IdleFlip, IdleReplay, IdlePull, IdlePlug, EmptyIsLinks};
+ghost use Rattle.link_defs.specs.Laws.{EmptyIsIdle};
+ghost use Rattle.link_defs.specs.Laws.{StepKeepsCables, StepKeepsVertices, StepKeepsHistory, StepKeepsLinks};
+ghost use Rattle.link_defs.specs.Laws.{StepsKeepCables, StepsKeepLinks};
 ghost use Rattle.link_defs.specs.Lone.{LoneAdvance, LonePacketWalks, LonePacketWalksWhereNoneIsNew, NoChannelIsStuck};
 ghost use Rattle.link_defs.specs.Ordered.{NextIsLeast, NoNextIsLeft, NewSerialIsLast, FoundByOrder, TakenByOrder};
 ghost use Rattle.link_defs.specs.Mark.{EmptyHasTrueMarks, MarksStayTrue};

@@ -3,8 +3,8 @@
 //!
 //! This crate holds definitions and the small types that they speak of. It moves no packet.
 //! `specs/Links.antt` says what the links of a fabric are, `specs/Switch.antt` where a switch sends a packet,
-//! `specs/Advance.antt` what a step does, `specs/Fault.antt` what a loss, a copy, a delay, a flip and a replay do, and what a pulled and a plugged
-//! cable, and `specs/Hops.antt` how far packets may still go.
+//! `specs/Advance.antt` what a step does, `specs/Fault.antt` what a loss, a copy, a delay, a flip and a replay do, and
+//! what a pulled and a plugged cable, and `specs/Hops.antt` how far packets may still go.
 //!
 //! ```text
 //!            channel 0 ->            channel 3 ->

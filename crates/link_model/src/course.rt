@@ -1,6 +1,7 @@
 //! Where a channel's packet goes, whatever the other channels hold.
 
-ghost use Rattle.std.specs.Prelude.{◌≡◌, ◌≢◌, ◌<◌, ◌≤◌, ◌&&◌, not, ℕ, slice_get, drop, true, false, Some, IsSome, IfSome};
+ghost use Rattle.std.specs.Prelude.{◌≡◌, ◌≢◌, ◌<◌, ◌≤◌, ◌&&◌, not, ℕ, slice_get, drop, true, false, Some, IsSome};
+ghost use Rattle.std.specs.Prelude.{IfSome};
 ghost use Rattle.std.specs.List.{prefix_len};
 ghost use Rattle.net_defs.specs.Network.{has_port, is_port_count, ports_of};
 ghost use Rattle.packet_defs.specs.Packet.{front_turn, head, stripped};
@@ -155,8 +156,8 @@ pub(crate) fn next_channel<const ASKS: bool>(
     }
 }
 
-// The channel that the packet of a channel would go into if no cable were new: by one look into the table of hops, which
-// asks for no number of ports.
+// The channel that the packet of a channel would go into if no cable were new: by one look into the table of hops,
+// which asks for no number of ports.
 fn channel_ahead(wiring: &Wiring, c: u16, packet: &Packet) -> Option<u16>
     requires { c < life_channels wiring.now }
     ensures passing { passing wiring.now packet.now result ≡ entered_by (course wiring.now c packet.now) }

@@ -2,9 +2,9 @@
 //! stops where memory runs out.
 //!
 //! It runs nothing: the calls are in `world_drain`, `world_asking` and `table_installing`, and each that runs out of
-//! memory leaves a world that a prefix of its own log's events leads to. `specs/Row.antt` of `world_defs` says what that is;
-//! `specs/Drains.antt` here, that a drain goes on pass by pass. The lemmas that loops cite stand in `proofs/`: one file
-//! for what is repeated up to its last, and one for each log.
+//! memory leaves a world that a prefix of its own log's events leads to. `specs/Row.antt` of `world_defs` says what
+//! that is; `specs/Drains.antt` here, that a drain goes on pass by pass. The lemmas that loops cite stand in `proofs/`:
+//! one file for what is repeated up to its last, and one for each log.
 #![tactic(auto)]
 
 ghost use Rattle.log_laws.specs.Drains.{DrainRests, DrainGoesOn};

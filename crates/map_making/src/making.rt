@@ -33,9 +33,9 @@ pub struct MadeMap {
 /// Maps from the prober's host to a depth of so many cables, marks the core, and says what the map may be called.
 ///
 /// A map that is called complete is the host's part of the fabric, the ports of each switch counted from elsewhere.
-/// None is made of a tree of too many nodes. While no ask drowns, a depth of Q + D + 1 makes it complete, where the fabric is small enough. The prober's count
-/// of drowned asks begins at 0, since each ask that drowns makes the map doubtful. Where it runs out of memory, the map
-/// is lost, and the prober was asked a part of its asks, or all.
+/// None is made of a tree of too many nodes. While no ask drowns, a depth of Q + D + 1 makes it complete, where the
+/// fabric is small enough. The prober's count of drowned asks begins at 0, since each ask that drowns makes the map
+/// doubtful. Where it runs out of memory, the map is lost, and the prober was asked a part of its asks, or all.
 pub fn make_map<P: Prober>(alloc: Global, p: &mut P, depth: u8) -> Result<MadeMap, AllocError>
     requires some { 1 ≤ depth }
     requires shallow { depth ≤ 32 }

@@ -130,7 +130,8 @@ impl NicNode {
     /// Gives up an epoch: nothing of it is active or collected then, and its parts are old. Where the table has seen a
     /// later one nothing changes. What is staged stays.
     pub fn revoke(&mut self, epoch: u32)
-        ensures { self.new ≡ in_state self.old (record self.old.state { table = revoked_table self.old.state.table epoch }) }
+        ensures { self.new ≡ in_state self.old
+            (record self.old.state { table = revoked_table self.old.state.table epoch }) }
     {
         self.table.revoke(epoch);
     }

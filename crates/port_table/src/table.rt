@@ -2,7 +2,8 @@
 
 ghost use Rattle.std.specs.Prelude.{◌≡◌, ◌≢◌, ℕ, ◌<◌, ◌≤◌, ◌+◌, ◌*◌, ◌^◌, [], length, set, slice_index_or, None, Some};
 ghost use Rattle.std.specs.Prelude.{false, vec_capacity, OnOk};
-ghost use Rattle.port_table.specs.Ends.{AddsPlaces, AddsRow, HasRoomForNumber, AreRowsOf, PutsAt, alone, known_at, look};
+ghost use Rattle.port_table.specs.Ends.{AddsPlaces, AddsRow, HasRoomForNumber, AreRowsOf, PutsAt, alone, known_at};
+ghost use Rattle.port_table.specs.Ends.{look};
 ghost use Rattle.port_table.specs.Ends.{one_at, HasPlace, IsOutside, IsSpanOf};
 
 use crate::end::NodePort;

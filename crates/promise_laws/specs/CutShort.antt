@@ -38,9 +38,11 @@ pub data IsBegunMap (host depth tries : ℕ) (w v : WorldState) : Type 0 where
       → (log.asks w.links.cables.changes host tries (map (λ e. e.walk) j) w).value.entries ≡ j
       → v ≡ (log.asks w.links.cables.changes host tries (map (λ e. e.walk) j) w).world → IsBegunMap host depth tries w v
   stopped_within : (j : List Entry) (x : List ℤ) (between : WorldState) → IsGrowing host depth j
-      → length (nodes j) ≤ node_limit → (log.asks w.links.cables.changes host tries (map (λ e. e.walk) j) w).value.entries ≡ j
+      → length (nodes j) ≤ node_limit
+      → (log.asks w.links.cables.changes host tries (map (λ e. e.walk) j) w).value.entries ≡ j
       → between ≡ (log.asks w.links.cables.changes host tries (map (λ e. e.walk) j) w).world → NextAsk host depth j x
-      → IsPartWay between (log.ask w.links.cables.changes host tries x between).events v → IsBegunMap host depth tries w v
+      → IsPartWay between (log.ask w.links.cables.changes host tries x between).events v
+      → IsBegunMap host depth tries w v
 
 -- Where a map can be made, one that was begun and stopped is the command cut short: its asks are the first ones of the
 -- one map that there is.

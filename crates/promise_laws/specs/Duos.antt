@@ -57,7 +57,8 @@ abbrev pub LeftDuosAreReached : Type 0
 LeftDuosAreReached =
     (n : Network) (commands : List Command) (out : List Piece) (s : SessionState) (c : Command) (left : Option DuoState)
     (d : DuoState)
-    → AllByRecursion (IsCommandOf n) commands → IsCommandOf n c → IsRun n commands out s → IsDuoLeft s c left → left ≡ Some d
+    → AllByRecursion (IsCommandOf n) commands → IsCommandOf n c → IsRun n commands out s → IsDuoLeft s c left
+    → left ≡ Some d
     → IsReachedFromNew d
 
 -- so what an incarnation got of another is a prefix of what that one sent it, and each token has one owner

@@ -11,7 +11,8 @@ use Rattle.gm_defs.specs.declared.message.Message.{Message}
 use Rattle.gm_defs.specs.Connection.{connection}
 use Rattle.world_defs.specs.declared.client.ClientCause.TheVariants.{NoToken}
 use Rattle.world_defs.specs.declared.effect.Said.TheVariants.{Refused}
-use Rattle.world_defs.specs.declared.event.Event.TheVariants.{Part, Inject, Advance, Hold, Replay, Revoke, Begin, Send, Pull, Plug}
+use Rattle.world_defs.specs.declared.event.Event.TheVariants.{Part, Inject, Advance, Hold, Replay, Revoke, Begin}
+use Rattle.world_defs.specs.declared.event.Event.TheVariants.{Send, Pull, Plug}
 use Rattle.world_defs.specs.Table.{active_epoch}
 use Rattle.world_defs.specs.World.{WorldState, new_world, node_at, epoch_of}
 use Rattle.world_defs.specs.Examples.{setup_routes}

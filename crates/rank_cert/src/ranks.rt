@@ -48,9 +48,9 @@ impl Ranks {
         }
     }
 
-    /// The same ranks with the channels of a map beside them, so that `check` finds each by one look. Without them where
-    /// there is no room, and where the map has more vertices than there are ranks: then a table takes longer than it
-    /// saves.
+    /// The same ranks with the channels of a map beside them, so that `check` finds each by one look. Without them
+    /// where there is no room, and where the map has more vertices than there are ranks: then a table takes longer than
+    /// it saves.
     pub fn over(self, m: &FabricMap) -> Ranks
         ensures { result ≡ self }
     {

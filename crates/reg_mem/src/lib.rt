@@ -6,8 +6,8 @@
 //!
 //! The message of a send shares the buffer's bytes, where it is long; so they lie in memory once, though buffer and
 //! message each keep theirs. When the two part, as in [`deregister`], the buffer's bytes are copied into room that was
-//! taken when they were shared. A buffer of zeros or of bytes that count up has room for them from the start, and writes
-//! them out once something is written into it. `specs/Held.antt` says what is held.
+//! taken when they were shared. A buffer of zeros or of bytes that count up has room for them from the start, and
+//! writes them out once something is written into it. `specs/Held.antt` says what is held.
 //!
 //! ```text
 //!   bytes   registered     bytes

@@ -25,8 +25,8 @@ use fabric_map::FabricMap;
 use std::alloc::{AllocError, Global};
 use updown::Orientation;
 
-/// The ways to a host and its vertex, by those to another host that hangs at one switch with it, each by a channel down.
-/// None where they don't.
+/// The ways to a host and its vertex, by those to another host that hangs at one switch with it, each by a channel
+/// down. None where they don't.
 pub(crate) fn ways_beside(
     alloc: Global,
     m: &FabricMap,

@@ -1,6 +1,7 @@
 //! The routes of all hosts.
 
-ghost use Rattle.std.specs.Prelude.{◌≡◌, ◌≢◌, ℕ, pos, ◌<◌, ◌≤◌, ◌++◌, ◌∷◌, [], length, take, true, None, Some, IfOk, IfSome, OnOk};
+ghost use Rattle.std.specs.Prelude.{◌≡◌, ◌≢◌, ℕ, pos, ◌<◌, ◌≤◌, ◌++◌, ◌∷◌, [], length, take, true, None, Some, IfOk};
+ghost use Rattle.std.specs.Prelude.{IfSome, OnOk};
 ghost use Rattle.std.specs.List.{AllByRecursion, list_all};
 ghost use Rattle.net_defs.specs.Turn.{IsTurn, is_turn, walk_refusal};
 ghost use Rattle.map_defs.specs.NetMap.{IsConnected, host_of_vertex, switches_of};

@@ -42,8 +42,8 @@ impl PartAck {
         Ok(bytes)
     }
 
-    /// Its bytes after others, as the front of a packet: so it needs no buffer of its own. Where memory runs out, a part
-    /// of them may stand there.
+    /// Its bytes after others, as the front of a packet: so it needs no buffer of its own. Where memory runs out, a
+    /// part of them may stand there.
     pub fn append(&self, bytes: &mut Vec<u8>) -> Result<(), AllocError>
         ensures bytes { OnOk result (bytes.new.items ≡ bytes.old.items ++ mapping_bytes (ack_body self.now)) }
         ensures few { length (mapping_bytes (ack_body self.now)) ≡ 8 }

@@ -1,5 +1,5 @@
--- What a command is: a deed, of acts in order, of what is printed, and of what is kept of it. The world after it follows
--- from its acts.
+-- What a command is: a deed, of acts in order, of what is printed, and of what is kept of it. The world after it
+-- follows from its acts.
 use Rattle.std.specs.Prelude.{List, [], Some}
 use Rattle.act_defs.specs.Acts.{Act, acted_all}
 use Rattle.duo_defs.specs.Duo.{DuoState}

@@ -217,8 +217,8 @@ abbrev pub broken_lines : WorldState → Option Adoption → List Line
 broken_lines w None = NoBroken ∷ []
 broken_lines w (Some a) = map (λ r. BrokenLine r.from r.to) (broken_routes w a) ++ EndBroken ∷ []
 
--- What kind a command is of. Most are told by the lines that they print: of the world, where they only read it; or of one
--- event at most, by the world before it, its effect and the world after it.
+-- What kind a command is of. Most are told by the lines that they print: of the world, where they only read it; or of
+-- one event at most, by the world before it, its effect and the world after it.
 pub data Kind : Type 0 where
   Reading : (WorldState → List Line) → Kind
   OneEvent : (WorldState → Option Event) → (WorldState → Effect → WorldState → List Line) → Kind

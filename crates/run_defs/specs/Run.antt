@@ -1,5 +1,6 @@
 -- What commands do, one after another, from the first world of a fabric on.
-use Rattle.std.specs.Prelude.{◌≡◌, ℕ, ◌-◌, true, List, [], ◌∷◌, ◌++◌, map, length, nat_eq, slice_get, Option, Some, None}
+use Rattle.std.specs.Prelude.{◌≡◌, ℕ, ◌-◌, true, List, [], ◌∷◌, ◌++◌, map, length, nat_eq, slice_get, Option, Some}
+use Rattle.std.specs.Prelude.{None}
 use Rattle.std.specs.List.{filter, list_any}
 use Rattle.net_defs.specs.declared.route.Route.{Route}
 use Rattle.net_defs.specs.Network.{Network}
@@ -57,8 +58,8 @@ abbrev pub routes_lines : NetMap → List Route → List Line
 routes_lines m routes = RoutesLine (length routes) ∷ map route_line routes
     ++ map (rank_line m) (ranks_of m (order_of m)) ++ EndRoutes ∷ []
 
--- What a command is in a session: a deed. A map that is made has a journal, which the log of its asks answers, and takes
--- its acts from that log.
+-- What a command is in a session: a deed. A map that is made has a journal, which the log of its asks answers, and
+-- takes its acts from that log.
 pub data IsDeed (s : SessionState) : Command → Deed → Type 0 where
   determined : {c : Command} {d : Deed} → deed_of s c ≡ Some d → IsDeed s c d
   maps : {host depth tries : ℕ} {d : Deed} → (after : WorldState) (j : List Entry) (m : NetMap) (words : MapWords)

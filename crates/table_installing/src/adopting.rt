@@ -41,11 +41,13 @@ pub fn adopt_and_install(
         ≡ (log.install (adoption_of w.old mapper set.now) hosts.now tries (adopted_by w.old mapper set.now)).world) }
     ensures of { IfOk result (λ x. x.of ≡ length hosts.now) }
     ensures cause { IfOk result (λ x. w.new.injected < last_count
-        → TellsCause (adoption_of w.old mapper set.now) hosts.now tries x.acked (adopted_by w.old mapper set.now) w.new) }
+        → TellsCause (adoption_of w.old mapper set.now) hosts.now tries x.acked
+        (adopted_by w.old mapper set.now) w.new) }
     ensures refused { Refuses (adopt_refusal (standing_of w.old) set.now w.old.adopted) AdoptRefusal.NoMemory result }
     ensures unchanged { IfSome (adopt_refusal (standing_of w.old) set.now w.old.adopted) (λ why. w.new ≡ w.old) }
     ensures err { OnErr result ((w.new ≡ w.old) ⊎ IsPartWay (adopted_by w.old mapper set.now)
-        (log.install (adoption_of w.old mapper set.now) hosts.now tries (adopted_by w.old mapper set.now)).events w.new) }
+        (log.install (adoption_of w.old mapper set.now) hosts.now tries
+        (adopted_by w.old mapper set.now)).events w.new) }
     ensures idle { OnOk result (is_idle w.new.links ≡ true) }
     ensures cables { OnOk result (OnlyPulled (adopted_by w.old mapper set.now).links.cables w.new.links.cables) }
     ensures hosts { host_count w.new ≡ host_count w.old }

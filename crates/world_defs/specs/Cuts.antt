@@ -24,7 +24,8 @@ s_end = switch_end 0 5
 abbrev pub parted : List Effect × WorldState
 parted = steps (new_world two_hosts) (Pull b_end ∷ Pull s_end ∷ [])
 
--- three plugs that aren't possible, since a port has a cable, the two are equal, or there is no such port; and one that is
+-- three plugs that aren't possible, since a port has a cable, the two are equal, or there is no such port; and one that
+-- is
 abbrev pub plugs : List Effect × WorldState
 plugs = steps parted.1
     (Plug b_end (switch_end 0 2) ∷ Plug b_end b_end ∷ Plug b_end (switch_end 0 8) ∷ Plug b_end (switch_end 0 6) ∷ [])

@@ -32,7 +32,8 @@ use Rattle.world_defs.specs.declared.arrival.Arrival.{Arrival}
 use Rattle.world_defs.specs.declared.arrival.Arrival.TheVariants.{Heard as Hears, Dropped, NotMine}
 use Rattle.world_defs.specs.Table.{TableState, applied}
 use Rattle.world_defs.specs.Lane.{Ticket, lane_acknowledged, tickets_finished, lane_after}
-use Rattle.world_defs.specs.Node.{NodeState, StagedAck, sending_lane, taking_lane, lane_at, with_lane, port_at, with_port}
+use Rattle.world_defs.specs.Node.{NodeState, StagedAck, sending_lane, taking_lane, lane_at, with_lane, port_at}
+use Rattle.world_defs.specs.Node.{with_port}
 
 -- the address of one of so many hosts
 abbrev pub is_host : ℕ → ℕ → Bool

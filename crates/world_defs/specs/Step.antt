@@ -32,7 +32,8 @@ use Rattle.world_defs.specs.declared.effect.Effect.TheVariants.{GaveUp, Repeated
 use Rattle.world_defs.specs.declared.effect.Effect.TheVariants.{Said}
 use Rattle.world_defs.specs.declared.effect.Said.TheVariants.{Done}
 use Rattle.world_defs.specs.declared.effect.Cause.{Cause}
-use Rattle.world_defs.specs.declared.effect.Cause.TheVariants.{OutOfRange, NotRoute, NoCable, NewCable, BadCrc, RouteLeft}
+use Rattle.world_defs.specs.declared.effect.Cause.TheVariants.{OutOfRange, NotRoute, NoCable, NewCable, BadCrc}
+use Rattle.world_defs.specs.declared.effect.Cause.TheVariants.{RouteLeft}
 use Rattle.world_defs.specs.declared.effect.Cause.TheVariants.{UnknownType, Malformed, NotMine}
 use Rattle.world_defs.specs.declared.fault.Fault.{Fault}
 use Rattle.world_defs.specs.declared.fault.Fault.TheVariants.{Lose as LoseFault, Repeat as RepeatFault}
@@ -142,8 +143,8 @@ struck_by w f (true, l) = record w {
 }
 struck_by w f (false, l) = w
 
--- the fault that was planned for the last injection strikes, a packet's fault the one in this channel, and is planned no
--- more
+-- the fault that was planned for the last injection strikes, a packet's fault the one in this channel, and is planned
+-- no more
 abbrev pub fault_strikes : WorldState → ℕ → Option Fault → WorldState
 fault_strikes w c None = w
 fault_strikes w c (Some f) = struck_by (record w { plan = without_fault w.injected w.plan }) f (fault_on w.links c f)

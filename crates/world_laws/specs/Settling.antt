@@ -5,7 +5,8 @@ use Rattle.world_defs.specs.World.{WorldState}
 use Rattle.world_defs.specs.Step.{after_all}
 use Rattle.world_defs.specs.Settle.{unacknowledged_in, expiries, pass_bound, round_bound, is_last_round}
 use Rattle.world_defs.specs.Log.{Log}
-use Rattle.world_defs.specs.Logs.{Moved, Rounds, clear, moved_both, is_last_pass, round_pass, round_passes, rounds_both, one_round}
+use Rattle.world_defs.specs.Logs.{Moved, Rounds, clear, moved_both, is_last_pass, round_pass, round_passes}
+use Rattle.world_defs.specs.Logs.{rounds_both, one_round}
 use Rattle.world_defs.specs.Logs.{rounds, settle}
 use Rattle.world_laws.specs.Repeats.{Repeats}
 use Rattle.world_laws.specs.Shape.{HasSenders}
@@ -34,7 +35,8 @@ RoundEnds = (w : WorldState)
 
 -- where the numbers of the connections are in order, the rounds of a settle end
 abbrev pub SettleEnds : Type 0
-SettleEnds = (w : WorldState) → HasSenders w → AllRounds (clear w).world (rounds (round_bound (clear w).world) (clear w).world)
+SettleEnds = (w : WorldState) → HasSenders w
+    → AllRounds (clear w).world (rounds (round_bound (clear w).world) (clear w).world)
 
 -- it has a round at least, and at most one more than there are unacknowledged fragments and planned faults at its start
 abbrev pub RoundsAreBounded : Type 0

@@ -1,7 +1,8 @@
 //! Every event leaves a world, whose cables it may pull or plug: `specs/Shape.antt` has the statements.
 
 ghost use Rattle.world_laws.specs.Shape.{NewIsWorld, EventLeavesWorld, EventsLeaveWorld, EventIsLater, EventsAreLater};
-ghost use Rattle.world_laws.specs.Shape.{EventPulls, EventKeepsCables, EventKeepsVertices, EventKeepsPast, NewHasSenders};
+ghost use Rattle.world_laws.specs.Shape.{EventPulls, EventKeepsCables, EventKeepsVertices, EventKeepsPast};
+ghost use Rattle.world_laws.specs.Shape.{NewHasSenders};
 ghost use Rattle.world_laws.specs.Shape.{EventKeepsSenders, EventsKeepSenders, AdoptionLeavesWorld, PlanLeavesWorld};
 ghost use Rattle.world_laws.specs.Shape.{AdoptionKeepsSenders, PlanKeepsSenders};
 

@@ -14,8 +14,8 @@ use std::alloc::{AllocError, Global};
 use world_defs::{Effect, Event, Fault};
 
 impl Machine {
-    /// An event that leaves the cables: its effect, and links and hosts after it. Running out of memory changes nothing,
-    /// and hides no refusal of a client's call.
+    /// An event that leaves the cables: its effect, and links and hosts after it. Running out of memory changes
+    /// nothing, and hides no refusal of a client's call.
     pub(crate) fn step(&mut self, alloc: Global, e: &Event) -> Result<Effect, AllocError>
         requires given { IsGiven self.old e.now }
         requires still { is_of_cables e.now ≡ false }

@@ -1,6 +1,7 @@
 //! Reading a world.
 
-ghost use Rattle.std.specs.Prelude.{◌≡◌, ◌≢◌, ◌≤◌, ◌<◌, ◌^◌, ℕ, length, slice_get, true, is_some, option_map, Some, None};
+ghost use Rattle.std.specs.Prelude.{◌≡◌, ◌≢◌, ◌≤◌, ◌<◌, ◌^◌, ℕ, length, slice_get, true, is_some, option_map, Some};
+ghost use Rattle.std.specs.Prelude.{None};
 ghost use Rattle.std.specs.Prelude.{IfSome, IfNone};
 ghost use Rattle.cable_history.specs.Crossed.{leaving, life_channels, life_tail, life_head, is_new};
 ghost use Rattle.link_defs.specs.Hops.{total_hops};
