@@ -12,7 +12,7 @@ STATUSES = [
     (4, "standard input can't be read", "nothing", "look at the file, the pipe, the disk"),
     (5, "standard output can't be written", "a prefix of the report", "a full disk, or a reader that closed the pipe"),
     (6, "out of memory", "a prefix of the report or nothing", "free memory, or a smaller fabric"),
-    (7, "the text, under `judge` with its report, has more than 1,048,576 bytes", "nothing", "cut it into runs"),
+    (7, "the text, under `judge` with its report, has more than 1,048,576 bytes", "nothing", "split it into several runs"),
     (8, "the system refuses the words, as one that isn't UTF-8", "nothing", "plain words"),
     (132, "a check of a build without proofs failed, which the proved program rules out", "a prefix of the report or nothing", "please keep the text and report it"),
 ]
@@ -31,8 +31,8 @@ MAP_WORDS = {
     ),
     "doubtful {count}": (
         "{count} of the asks drowned: of each a planned fault met every try of one of its two probes, or a planned pull struck in the map before it was answered",
-        "{count} of the asks drowned: of each a planned fault met every try of one of its two probes, or a planned pull struck in the map before it was answered, so what it found to be nothing may be something",
-        "map again, since what is planned strikes once; more TRIES than planned faults help too, but not against a pull",
+        "{count} of the asks drowned: of each a planned fault met every try of one of its two probes, or a planned pull struck in the map before it was answered, so something may be there after all",
+        "map again: a planned fault happens only once; more TRIES than planned faults help too, but not against a pull",
     ),
     "complete": (
         "none of these holds: the map is the mapper's part of the fabric",

@@ -85,4 +85,8 @@ Way::turns(&self) -> &'a [i8]
 here() -> u8
 ```
 END
-check-surface "$root"
+check-surface "$root" || echo "status $?"
+echo
+check-surface --write "$root"
+check-surface "$root" | tail -n 1
+sed -n '/^### `low`/,/^```$/p' "$root/docs/SURFACE.md"
