@@ -9,11 +9,11 @@ from fabtools import refusals
 STATUSES = [
     (2, "the words are none of `run`, `judge`, and `gen N SEED` with N 2 to 24 and SEED 0 to 1,000,000", "nothing", "`myrifab run < TEXT`, `tools/judge TEXT REPORT`, `myrifab gen 24 7`; there are no options"),
     (3, "the text is refused", "its one line", "mend [the line that it names](#the-text-is-refused)"),
-    (4, "standard input can't be read", "nothing", "look at the file, the pipe, the disk"),
-    (5, "standard output can't be written", "a prefix of the report", "a full disk, or a reader that closed the pipe"),
-    (6, "out of memory", "a prefix of the report or nothing", "free memory, or a smaller fabric"),
+    (4, "standard input can't be read", "nothing", "check the file, the pipe, the disk"),
+    (5, "standard output can't be written", "a prefix of the report", "check for a full disk, or a reader that closed the pipe"),
+    (6, "out of memory", "a prefix of the report or nothing", "free memory, or use a smaller fabric"),
     (7, "the text, under `judge` with its report, has more than 1,048,576 bytes", "nothing", "split it into several runs"),
-    (8, "the system refuses the words, as one that isn't UTF-8", "nothing", "plain words"),
+    (8, "the system refuses the words, as it does one that isn't UTF-8", "nothing", "use plain words"),
     (132, "a check of a build without proofs failed, which the proved program rules out", "a prefix of the report or nothing", "please keep the text and report it"),
 ]
 
@@ -21,17 +21,17 @@ STATUSES = [
 MAP_WORDS = {
     "incomplete nodes": (
         "the mapper's tree has more than 65,536 nodes; no lines of a map follow",
-        "the tree of walks got too large, as where many parallel cables join two switches far from any host, so no map follows",
+        "the tree of walks got too large, so no map follows; many parallel cables between two switches far from any host do this",
         "map from a host that is nearer, or put hosts at those switches",
     ),
     "incomplete depth": (
         "some switch wasn't expanded, since it stands DEPTH cables away or further on every way that was found",
-        "the map is cut off: a switch stands as far away as it is deep, so one switch may be shown several times",
+        "the map is cut off: some switch is as far away as the map is deep, so one switch may be shown several times",
         "map [deeper](#which-depth), or from a host nearer to all",
     ),
     "doubtful {count}": (
-        "{count} of the asks drowned: of each a planned fault met every try of one of its two probes, or a planned pull struck in the map before it was answered",
-        "{count} of the asks drowned: of each a planned fault met every try of one of its two probes, or a planned pull struck in the map before it was answered, so something may be there after all",
+        "{count} of the asks drowned: for each a planned fault met every try of one of its two probes, or a planned pull struck during the map before it was answered",
+        "{count} of the asks drowned: for each a planned fault met every try of one of its two probes, or a planned pull struck during the map before it was answered, so something may be there after all",
         "map again: a planned fault happens only once; more TRIES than planned faults help too, but not against a pull",
     ),
     "complete": (
@@ -42,7 +42,7 @@ MAP_WORDS = {
     "circuit {host} nodes": (
         "",
         "the tree of circuit answers got more than 65,536 nodes, so no map follows",
-        "a lesser DEPTH, or a host that is nearer to many others",
+        "use a lesser DEPTH, or a host that is nearer to many others",
     ),
 }
 
