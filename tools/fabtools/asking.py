@@ -28,8 +28,8 @@ def ask(text):
 def judge(tool, name, text, report):
     """Judges a report after its text, which has this name, and tells the verdict: 0 for yes, 1 for no, 2 for neither."""
     fault = script.first_fault(text)
-    if fault and fault.kind == "afterend":
-        # The program would take what follows `end` for the report.
+    if fault and fault.kind in ("noend", "afterend"):
+        # The program would take the report for more of the text, or what follows `end` for the report.
         print(f"{tool}: {name} is refused: {fault}", file=sys.stderr)
         return 2
     try:

@@ -31,8 +31,11 @@ class Refusal:
     def __init__(self, text, fault):
         self.text, self.fault, self.is_large = text, fault, len(text) > LONGEST_TEXT
 
-    def report_line(self):
-        return None if self.is_large else ["refused", str(self.fault.line), self.fault.kind]
+    def report_lines(self):
+        return [] if self.is_large else [["refused", str(self.fault.line), self.fault.kind]]
+
+    def has_faults(self):
+        return False
 
     def facts(self):
         if self.is_large:

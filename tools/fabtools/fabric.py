@@ -1,5 +1,8 @@
 """The text of a fabric and its script, as the program reads it: names, ports, cables, and the script's lines as words."""
 
+import errno
+import os
+import sys
 from pathlib import Path
 
 from fabtools.forms import FABRIC_FORMS, MOST_DEPTH, MOST_HOSTS, MOST_SWITCHES, NAME, PORT_COUNTS, SCRIPT_FORMS, Fault
@@ -8,9 +11,25 @@ from fabtools.forms import check_count, name, nearest, number, past_the_last, sa
 __all__ = ["MOST_DEPTH", "MOST_HOSTS", "MOST_SWITCHES", "NAME", "PORT_COUNTS", "Fault"]
 
 
-def load(path):
-    """The text of a file, each byte a character."""
-    return Path(path).read_bytes().decode("latin-1")
+def load(path=None):
+    """The text of a file, or of standard input without one, each byte a character."""
+    try:
+        read = Path(path).read_bytes() if path is not None else sys.stdin.buffer.read()
+    except AttributeError:
+        raise OSError(errno.EBADF, os.strerror(errno.EBADF), "standard input") from None
+    except OSError as error:
+        raise OSError(error.errno, error.strerror, path or "standard input") from None
+    except ValueError as error:
+        raise OSError(errno.EINVAL, str(error), path) from None
+    return read.decode("latin-1")
+
+
+def save(path, text):
+    """Writes a text into a file."""
+    try:
+        Path(path).write_text(text)
+    except OSError as error:
+        raise OSError(error.errno, error.strerror, path) from None
 
 
 class Fabric:

@@ -1,23 +1,18 @@
 """What is asked of tools/explain, and the facts that answer it."""
 
 from fabtools import meanings, restarts, waiting
+from fabtools.entry import Failure
 from fabtools.explained import BrokenFacts, LineFacts, MapFacts, RoutesFacts
-from fabtools.report import Broken, CircuitMap, Map, Routes, Shown, misfit
+from fabtools.report import Broken, CircuitMap, Map, Routes
 from fabtools.routing import Routed, channel_text, end_text, load_facts, shortest_way, way_text
 from fabtools.words import counted
 
 
-class NoSuchThing(Exception):
+class NoSuchThing(Failure):
     """What was asked for isn't in the text or its report."""
 
 
 def facts(fabric, report, asked):
-    stranger = next((it for it in hosts_of(report) if it not in fabric.hosts), None)
-    if stranger:
-        raise NoSuchThing(f"the report isn't that of this text, which has no host {stranger}")
-    for shown, standing in report.standing(fabric):
-        if isinstance(shown, Map) and misfit(standing, shown):
-            raise NoSuchThing(f"the report isn't that of this text: {misfit(standing, shown)}")
     if asked.pair:
         return Pair(last_routes(fabric, report), *asked.pair)
     if asked.cable:
@@ -25,17 +20,6 @@ def facts(fabric, report, asked):
     if asked.loads:
         return Loads(last_routes(fabric, report))
     return Whole(fabric, report, asked.brief)
-
-
-def hosts_of(report):
-    """The hosts that the maps and routes of a report name."""
-    for item in report.items:
-        if isinstance(item, Routes):
-            yield from (host for route in item.routes for host in route[:2])
-        elif isinstance(item, Shown):
-            yield from [item.host, *item.hosts()]
-        elif isinstance(item, Broken):
-            yield from (host for pair in item.pairs for host in pair)
 
 
 def routed(fabric, report):

@@ -1,6 +1,8 @@
 """A report, read line by line: its maps, routes, installations, settles and all other lines, each with its number."""
 
+from fabtools import forms
 from fabtools.fabric import reached
+from fabtools.reading import number
 
 COMPARE = "tools/compare says all that differs"
 
@@ -71,23 +73,18 @@ class Report:
     """The items of a report in order: Map, CircuitMap, Routes, Broken, or (line, words) for any other line."""
 
     def __init__(self, text):
-        self.items, open_item = [], None
-        for line, words in enumerate((it.split() for it in text.splitlines()), 1):
-            if not words:
-                continue
-            if open_item:
-                open_item = self.inside(open_item, words)
-            else:
-                open_item = self.begin(line, words)
+        self.text, self.items, open_item = text, [], None
+        for line, words in forms.saying(text):
+            open_item = self.inside(open_item, words) if open_item else self.begin(line, words)
 
     def begin(self, line, words):
         if words[0] == "map" and "asks" in words[2:]:
             at = words.index("asks", 2)
-            item = Map(line, words[1], " ".join(words[2:at]), int(words[at + 1]), int(words[at + 3]))
+            item = Map(line, words[1], " ".join(words[2:at]), number(words[at + 1], None), number(words[at + 3], None))
             self.items.append(item)
             return None if item.words == "incomplete nodes" else item
         if words[0] == "circuit" and words[2] == "depth":
-            self.items.append(CircuitMap(line, words[1], int(words[3]), int(words[5])))
+            self.items.append(CircuitMap(line, words[1], number(words[3]), number(words[5], None)))
             return self.items[-1]
         if words[0] == "routes" and words[1] != "refused":
             self.items.append(Routes(line))

@@ -1,16 +1,16 @@
-"""A run: a text with its report, how the last map lies in the fabric, and the ways that the last routes take."""
+"""A run: a fabric with a report, how the last map lies in the fabric, and the ways that the last routes take."""
 
 from collections import Counter
 
 from fabtools import fabric as fabrics
-from fabtools.report import Map, Report, Routes, misfit, place, real_end
+from fabtools.report import Map, Routes, place, real_end
 
 
 class Run:
     """The fabric of a text, first, last and as it stood when the last map was made, and what that map and the last routes of a report say of it."""
 
-    def __init__(self, text, report=""):
-        self.first, self.report = fabrics.read(text), Report(report)
+    def __init__(self, fabric, report):
+        self.first, self.report = fabric, report
         standing = list(self.report.standing(self.first))
         self.last = standing[-1][1] if standing else self.first
         maps, routes = [it for it in standing if isinstance(it[0], Map)], self.report.of(Routes)
@@ -20,10 +20,6 @@ class Run:
         self.at = place(self.fabric, self.shown) if self.shown else {}
         self.routes = routes[-1].routes if routes else []
         self.routes_line = routes[-1].line if routes else 0
-
-    def misfit(self):
-        """Why the last map is none of the text's fabric, or None."""
-        return misfit(self.fabric, self.shown) if self.shown else None
 
     def map_names(self, vertex):
         """What the map calls a switch; an incomplete map may show one twice."""

@@ -1,6 +1,7 @@
 """What waits after a settle, and for what: the script's calls and the report's answers, followed side by side."""
 
 from fabtools import fabric as fabrics
+from fabtools.reading import number
 from fabtools.report import Broken, Routes, Shown
 from fabtools.words import counted
 
@@ -124,7 +125,7 @@ def after_settles(fabric, items):
         if words[0] == "settle":
             calls.settle()
             waiting = sum(fragments(length) for lane in calls.sent.values() for *_, length in lane)
-            told[at] = list(calls.waiting()) if calls.is_known and waiting == int(answer[-1]) else []
+            told[at] = list(calls.waiting()) if calls.is_known and waiting == number(answer[-1], None) else []
         while items and isinstance(items[0], tuple) and items[0][1][0] == "table":
             _, (_, host, state) = items.pop(0)
             calls.tables[host] = state

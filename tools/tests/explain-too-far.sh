@@ -11,5 +11,5 @@ text=$(mktemp)
 trap 'rm -f "$text"' EXIT
 for hosts in "" "20" "8 14 20 28" ; do
   chain $hosts > "$text"
-  printf 'map h0 incomplete depth asks 931 packets 1862\nendmap\n' | explain "$text" | head -n 3
+  printf '%s\n' 'map h0 incomplete depth asks 931 packets 1862' endmap 'end injected 1862 dropped 931' | explain "$text" | head -n 3
 done

@@ -15,7 +15,7 @@ sys.path.insert(0, str(TOOLS))
 
 from fabrics import RNG, fat_tree, mapped  # noqa: E402
 from fabtools import fabric as fabrics  # noqa: E402
-from fabtools.run import Run  # noqa: E402
+from fabtools import inputs  # noqa: E402
 
 EXAMPLES = TOOLS.parent / "examples"
 LOOKS = ("fat-tree", "torus", "room")
@@ -108,10 +108,10 @@ def write_large(folder):
 
 
 def faults(chromium, name, examples, folder):
-    text, report = ((examples / f"{name}.{it}").read_text() for it in ("in", "out"))
+    report = (examples / f"{name}.out").read_text()
     page = Path(folder) / f"{name}.html"
     page.write_text(subprocess.run([TOOLS / "page", examples / f"{name}.in", examples / f"{name}.out"], capture_output=True, text=True, check=True).stdout)
-    run = Run(text, report)
+    run = inputs.run(examples / f"{name}.in", examples / f"{name}.out")
     loads = run.loads()
     busiest = max(loads, key=lambda it: (loads[it], it))
     cable = next(at for at, it in enumerate(run.fabric.cables) if set(it) == set(busiest))

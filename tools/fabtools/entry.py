@@ -1,0 +1,120 @@
+"""The one way into each tool: its help, its version, and an end with a documented status and one line for what went wrong."""
+
+import errno
+import os
+import re
+import signal
+import sys
+from contextlib import suppress
+from pathlib import Path
+
+# What `make install` writes beside the tools: the revision, and what is known of the program.
+INSTALLED = Path(__file__).resolve().parent.parent / "installed"
+TOOL = re.compile(r"\btools/(?=[a-z])")
+FAILED, INTERRUPTED = 2, 128 + signal.SIGINT
+MORE = f"""
+Each tool also ends with status {FAILED} where its output can't be written, and {INTERRUPTED} where it is interrupted;
+--version says which program it runs, and whether that one is proved."""
+
+
+class Failure(Exception):
+    """What keeps a tool from its work, in one line."""
+
+
+def named(text):
+    """A text of ours with the names under which the tools are installed, where they are."""
+    return TOOL.sub("myrifab-", text) if INSTALLED.exists() else text
+
+
+class Named:
+    """Standard error, on which tools have the names under which they are installed."""
+
+    def __init__(self, to):
+        self.to = to
+
+    def write(self, text):
+        return self.to.write(named(text))
+
+    def __getattr__(self, name):
+        return getattr(self.to, name)
+
+
+def start(main, told):
+    """Runs a tool's main over its words, and ends the process with its status; what it tells by --help begins with its name."""
+    signal.signal(signal.SIGINT, signal.default_int_handler)
+    open_streams()
+    status = ended(main, told, sys.argv[1:])
+    if status == INTERRUPTED:
+        # So that a shell's loop ends too.
+        signal.signal(signal.SIGINT, signal.SIG_DFL)
+        os.kill(os.getpid(), signal.SIGINT)
+    sys.exit(status)
+
+
+def open_streams():
+    """Standard error with the tools' names, and what can be shown for what can't be written."""
+    sys.stderr = Named(sys.stderr or open(os.devnull, "w"))
+    if sys.stdout:
+        sys.stdout.reconfigure(errors="backslashreplace")
+
+
+def ended(main, told, words):
+    """The status with which a tool ends, once all that it says is written."""
+    name = told.strip().partition(":")[0]
+    try:
+        status = run(main, told, words)
+        sys.stdout.flush()
+        return status
+    except SystemExit as it:
+        return it.code
+    except (Failure, OSError) as why:
+        failed(name, why_text(why))
+    except KeyboardInterrupt:
+        failed(name, "interrupted")
+        return INTERRUPTED
+    except MemoryError:
+        failed(name, "out of memory")
+    except Exception as why:
+        failed(name, f"a fault of the tool itself, which we should know of: {fault_text(why)}")
+    return FAILED
+
+
+def run(main, told, words):
+    if not sys.stdout:
+        raise OSError(errno.EBADF, os.strerror(errno.EBADF))
+    if words in (["--help"], ["-h"]):
+        print(named(told.strip()) + f"\n{MORE}")
+        return 0
+    if words == ["--version"]:
+        # Only here, since what finds the program takes its time to load.
+        from fabtools import version
+
+        print("\n".join(version.lines(told.strip().partition(":")[0])))
+        return 0
+    return main(words)
+
+
+def failed(name, why):
+    """Says why in one line, also where nothing more can be written to standard output."""
+    with suppress(OSError):
+        print(f"{name}: {why}", file=sys.stderr, flush=True)
+    if sys.stdout is sys.__stdout__ and sys.stdout:
+        try:
+            sys.stdout.flush()
+        except OSError:
+            os.dup2(os.open(os.devnull, os.O_WRONLY), sys.stdout.fileno())
+
+
+def why_text(why):
+    """A failure in one line. An error of the system that names no file is one of standard output."""
+    if isinstance(why, Failure):
+        return str(why)
+    return f"{why.filename or 'standard output'}: {why.strerror or why}"
+
+
+def fault_text(why):
+    """What nobody foresaw, with its place in the tools."""
+    at = why.__traceback__
+    while at.tb_next:
+        at = at.tb_next
+    return f"{type(why).__name__} at {Path(at.tb_frame.f_code.co_filename).name}:{at.tb_lineno}"
