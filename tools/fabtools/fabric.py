@@ -8,6 +8,8 @@ from pathlib import Path
 from fabtools.forms import FABRIC_FORMS, MOST_DEPTH, MOST_HOSTS, MOST_SWITCHES, NAME, PORT_COUNTS, SCRIPT_FORMS, Fault
 from fabtools.forms import check_count, name, nearest, number, past_the_last, saying, shown
 
+# A switch of a fabric that isn't bound may have as many ports as InfiniBand has numbers for them.
+MOST_PORTS = 254
 __all__ = ["MOST_DEPTH", "MOST_HOSTS", "MOST_SWITCHES", "NAME", "PORT_COUNTS", "Fault"]
 
 
@@ -32,12 +34,28 @@ def save(path, text):
         raise OSError(error.errno, error.strerror, path) from None
 
 
-class Fabric:
-    """Hosts by name, switches by name with their ports, and cables as pairs of ends (name, port)."""
+class Names(list):
+    """Names in their order, of which one is found at once."""
 
     def __init__(self):
-        self.hosts, self.switches, self.cables, self.script = [], {}, [], []
-        self.far_ends = {}
+        super().__init__()
+        self.known = set()
+
+    def append(self, name):
+        super().append(name)
+        self.known.add(name)
+
+    def __contains__(self, name):
+        return name in self.known
+
+
+class Fabric:
+    """Hosts by name, switches by name with their ports, and cables as pairs of ends (name, port). Where it isn't bound it may
+    be larger than the program takes."""
+
+    def __init__(self, is_bound=True):
+        self.hosts, self.switches, self.cables, self.script = Names(), {}, [], []
+        self.far_ends, self.is_bound = {}, is_bound
 
     def ports(self, name):
         """The number of ports of a vertex, 0 where there is none of this name."""
@@ -67,7 +85,7 @@ class Fabric:
         ends = [(words[at], int(words[at + 1])) for at in range(1, len(words) - 1, 2)]
         if any(port >= self.ports(vertex) for vertex, port in ends):
             return self
-        changed = Fabric()
+        changed = Fabric(self.is_bound)
         changed.hosts, changed.switches, changed.script = self.hosts, self.switches, self.script
         for cable in self.cables:
             if words[0] == "plug" or ends[0] not in cable:
@@ -124,23 +142,24 @@ def check_ends(fabric, line, ends):
 def host_line(fabric, line, words):
     new = name(line, words[0])
     check_new(fabric, line, new)
-    if len(fabric.hosts) == MOST_HOSTS:
+    if fabric.is_bound and len(fabric.hosts) == MOST_HOSTS:
         raise Fault(line, "full", f"a fabric has at most {MOST_HOSTS} hosts")
     fabric.add_host(new)
 
 
 def switch_line(fabric, line, words):
     new, ports = name(line, words[0]), number(line, "PORTS", words[1])
-    if ports not in PORT_COUNTS:
+    if ports not in PORT_COUNTS and (fabric.is_bound or not 1 <= ports <= MOST_PORTS):
         raise Fault(line, "portrange", f"a switch has 4, 8 or 16 ports, and not {ports}")
     check_new(fabric, line, new)
-    if len(fabric.switches) == MOST_SWITCHES:
+    if fabric.is_bound and len(fabric.switches) == MOST_SWITCHES:
         raise Fault(line, "full", f"a fabric has at most {MOST_SWITCHES} switches")
     fabric.add_switch(new, ports)
 
 
 def cable_line(fabric, line, words):
-    ends = [(name(line, words[at]), number(line, field, words[at + 1])) for at, field in ((0, "P"), (2, "Q"))]
+    most = None if fabric.is_bound else MOST_PORTS - 1
+    ends = [(name(line, words[at]), number(line, field, words[at + 1], most)) for at, field in ((0, "P"), (2, "Q"))]
     check_ends(fabric, line, ends)
     for end in ends:
         if fabric.far(end):
@@ -161,9 +180,10 @@ def no_such_line(first, words):
     return f"{shown(first)} begins no line of a fabric{nearest(first, words)}"
 
 
-def read(text):
-    """The fabric of a text with the words of its script's lines; raises Fault at its first fault in the fabric's part."""
-    fabric, scripted = Fabric(), False
+def read(text, is_bound=True):
+    """The fabric of a text with the words of its script's lines; raises Fault at its first fault in the fabric's part. Where it
+    isn't bound it may be larger than the program takes."""
+    fabric, scripted = Fabric(is_bound), False
     for line, words in saying(text):
         if scripted:
             fabric.script.append((line, words))

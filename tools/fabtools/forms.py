@@ -136,9 +136,9 @@ def check_count(line, first, words, forms):
         raise Fault(line, "badword", f"{shown(first)} takes {takes}, and {len(words)} stand{'s'[: len(words) == 1]} there")
 
 
-def number(line, name, word):
-    """The number that a word says for this name of a form."""
-    least, most = RANGES[name]
+def number(line, name, word, most=None):
+    """The number that a word says for this name of a form, whose range may end elsewhere."""
+    least, most = RANGES[name][0], most or RANGES[name][1]
     if not re.fullmatch(r"[0-9]+", word):
         raise Fault(line, "notnumber", f"{shown(word)} stands where {name} must, a number of digits alone")
     digits = word.lstrip("0") or "0"

@@ -1,137 +1,120 @@
-"""Forwarding tables of a subnet manager: the routes by which they lead, and numbers of channels that rise along them, if any do."""
+"""Forwarding tables of a subnet manager, and the text and reports by which the program judges them: the fabric as its
+own map, the route of each two hosts by the tables, and numbers of channels that rise along all of them, if any do."""
 
 import re
-from collections import defaultdict
 
-from fabtools import converting
+from fabtools import circles, converting
 from fabtools import fabric as fabrics
+from fabtools.subnet import NO_PORT, NoTables
 
 HEAD = re.compile(r"Unicast lids .*\bguid 0x([0-9a-f]+)\b", re.I)
 ENTRY = re.compile(r"(0x[0-9a-f]+)\s+(\d+)\s*[:#]", re.I)
+TAIL = re.compile(r"\d+ (valid )?lids dumped", re.I)
 LONGEST_WALK = 64
 
 
-class NoTables(Exception):
-    """The text has no table, or none of a switch of the topology."""
-
-
 def read(text):
-    """For each switch, by its guid, the port of each lid."""
-    tables, table = {}, None
-    for line in text.splitlines():
+    """For each switch, by its guid, the port of each LID."""
+    tables, table, is_open, ends = {}, None, 0, TAIL.search(text)
+    for number, line in enumerate(text.splitlines(), 1):
         head, entry = HEAD.match(line), ENTRY.match(line)
+        if head and is_open and ends:
+            raise NoTables(f"line {number}: the table of line {is_open} has no end, as '12 lids dumped'")
         if head:
-            table = tables.setdefault(int(head[1], 16), {})
+            table, is_open = tables.setdefault(int(head[1], 16), {}), number
         elif entry and table is not None:
             table[int(entry[1], 16)] = int(entry[2])
+        is_open = 0 if TAIL.match(line) else is_open
+    if is_open and ends:
+        raise NoTables(f"line {is_open}: this table has no end, as '12 lids dumped': the file is cut off")
     if not tables:
-        raise NoTables("it has no line as 'Unicast lids [0x0-0x15] of switch Lid 15 guid 0x0000000000200009 (s11):', as opensm and dump_lfts write them")
+        head = "Unicast lids [0x0-0x15] of switch Lid 15 guid 0x0000000000200009 (s11):"
+        raise NoTables(f"it has no line as '{head}', as opensm and dump_lfts write them")
     return tables
 
 
 class Routed:
-    """A topology with its tables, in the names and ports of a fabric's text."""
+    """A subnet in the names and ports of a fabric's text."""
 
-    def __init__(self, nodes, tables):
-        self.fabric, table = converting.convert(nodes)
+    def __init__(self, subnet):
+        self.subnet = subnet
+        self.fabric, table = converting.convert(subnet.nodes)
         self.names = {(node.key, port): name for name, port, node, _ in table}
-        self.lids = {name: node.lids.get(port) for name, port, node, _ in table if not node.is_switch}
-        self.out = {}
-        for name, _, node, _ in table:
-            if node.is_switch:
-                numbers = converting.port_numbers(node)
-                own = tables.get(int(node.key.split("-")[-1], 16), {})
-                self.out[name] = {lid: numbers.get(port) for lid, port in own.items()}
-        if not any(self.out.values()):
-            raise NoTables("none of its tables is of a switch of the topology")
-        self.hosts = list(self.fabric.hosts)
+        is_large = converting.is_large(subnet.nodes)
+        self.ports = {it.key: converting.port_numbers(it, is_large) for it in subnet.switches()}
 
-    def way(self, sender, receiver):
-        """The channels from one host towards another, as ends, and the turns; these end where no table leads on."""
-        way, turns, at = [(sender, 0)], [], self.fabric.far((sender, 0))
-        while at and at[0] in self.out and len(turns) < LONGEST_WALK:
-            port = self.out[at[0]].get(self.lids[receiver])
-            if port is None:
+    def end(self, end):
+        """An end of the files as one of the fabric."""
+        key, port = end
+        is_switch = self.subnet.nodes[key].is_switch
+        return (self.names[key, None], self.ports[key][port]) if is_switch else (self.names[end], 0)
+
+    def way(self, sender, lid):
+        """The channels from one host towards a LID, as ends, and the turns; these end where no table leads on."""
+        way, turns, at = [sender.end], [], self.subnet.far(sender.end)
+        while at and self.subnet.nodes[at[0]].is_switch and len(turns) < LONGEST_WALK:
+            port = self.subnet.out[at[0]].get(lid)
+            if port in NO_PORT or not self.subnet.far((at[0], port)):
                 break
-            turns.append(port - at[1])
             way.append((at[0], port))
-            at = self.fabric.far((at[0], port))
-        return way, turns
+            turns.append(self.ports[at[0]][port] - self.ports[at[0]][at[1]])
+            at = self.subnet.far((at[0], port))
+        return [self.end(it) for it in way], turns
 
-    def pairs(self):
-        return [(a, b) for a in self.hosts for b in self.hosts if a != b]
+    def ways_of(self, number):
+        """The way between each two hosts by one of the receiver's LIDs: the first of each, or the second, and so on."""
+        hosts = {self.names[it.end]: it for it in self.subnet.hosts}
+        pairs = [(a, b) for a in self.fabric.hosts for b in self.fabric.hosts if a != b]
+        return {(a, b): self.way(hosts[a], hosts[b].lids[number % len(hosts[b].lids)]) for a, b in pairs}
+
+    def text(self):
+        """The text: the fabric, a map and its routes."""
+        return f"{self.fabric.text()}map {self.fabric.hosts[0]} {fabrics.MOST_DEPTH} 1\nroutes\nend\n"
+
+    def reports(self):
+        """A report for each of the LIDs of a host: the fabric as its own map, the routes of the tables and their ranks,
+        which rise along the routes of all reports together."""
+        rounds = [self.ways_of(it) for it in range(max(len(it.lids) for it in self.subnet.hosts))]
+        ranks = circles.ranks(waiting(way for ways in rounds for way, _ in ways.values()))
+        for ways in rounds:
+            used = {it: ranks[it] for way, _ in ways.values() for it in way}
+            yield "\n".join([*self.map_lines(), *self.route_lines(ways, used), "end injected 0 dropped 0", ""])
+
+    def map_lines(self):
+        called = self.called()
+        yield f"map {self.fabric.hosts[0]} complete asks 0 packets 0"
+        yield from (f"host {it}" for it in self.fabric.hosts)
+        yield from (f"switch {called[it]} core" for it in self.fabric.switches)
+        yield from (f"cable {end_text(called, a)} {end_text(called, b)}" for a, b in self.fabric.cables)
+        yield "endmap"
+
+    def route_lines(self, ways, ranks):
+        place, called = {it: at for at, it in enumerate(self.fabric.vertices())}, self.called()
+        yield f"routes {len(ways)}"
+        yield from (" ".join(["route", *pair, *map(turn, turns)]) for pair, (_, turns) in ways.items())
+        ends = sorted(ranks, key=lambda it: (place[it[0]], it[1]))
+        yield from (f"rank {end_text(called, it)} {ranks[it]}" for it in ends)
+        yield "endroutes"
+
+    def called(self):
+        """What the map calls each vertex."""
+        numbers = {name: f"#{at}" for at, name in enumerate(self.fabric.switches)}
+        return {it: numbers.get(it, it) for it in self.fabric.vertices()}
 
 
 def waiting(ways):
     """For each channel those for which it may wait: the next ones on some route."""
-    after = defaultdict(set)
+    after = {}
     for way in ways:
         for end in way:
-            after[end] |= set()
+            after.setdefault(end, {})
         for one, other in zip(way, way[1:]):
-            after[one].add(other)
+            after[one][other] = None
     return after
 
 
-def circles(after):
-    """The channels in the order in which they may wait, those of one circle together: Tarjan's strong components, the last first."""
-    index, low, stack, on, found = {}, {}, [], set(), []
-    for root in sorted(after):
-        work = [] if root in index else [(root, iter(sorted(after[root])))]
-        while work:
-            end, others = work[-1]
-            if end not in index:
-                index[end] = low[end] = len(index)
-                stack.append(end)
-                on.add(end)
-            other = next((it for it in others if it not in index or it in on), None)
-            if other is None:
-                work.pop()
-                if work:
-                    low[work[-1][0]] = min(low[work[-1][0]], low[end])
-                if low[end] == index[end]:
-                    at = stack.index(end)
-                    found.append(stack[at:])
-                    on -= set(stack[at:])
-                    del stack[at:]
-            elif other not in index:
-                work.append((other, iter(sorted(after[other]))))
-            else:
-                low[end] = min(low[end], index[other])
-    return found
-
-
-def ranks(found):
-    """A number for each channel: it rises along every route where no circle waits, and is one for all channels of a circle."""
-    return {end: len(found) - at for at, ends in enumerate(found) for end in ends}
-
-
-def text_of(routed):
-    """The text: the fabric, a map and its routes."""
-    mapper = routed.hosts[0]
-    return f"{routed.fabric.text()}map {mapper} {fabrics.MOST_DEPTH} 1\nroutes\nend\n"
-
-
-def report_of(routed):
-    """The report, with the fabric as its own map, the routes of the tables and their ranks; and the circles of channels that wait."""
-    switches = {name: f"#{at}" for at, name in enumerate(routed.fabric.switches)}
-    vertices = [*routed.hosts, *switches]
-    called = {it: switches.get(it, it) for it in vertices}
-
-    def end_text(end):
-        return f"{called[end[0]]} {turn(end[1])}"
-
-    ways = {pair: routed.way(*pair) for pair in routed.pairs()}
-    found = circles(waiting(way for way, _ in ways.values()))
-    place = {it: at for at, it in enumerate(vertices)}
-    lines = [f"map {routed.hosts[0]} complete asks 0 packets 0"]
-    lines += [f"host {it}" for it in routed.hosts] + [f"switch {it} core" for it in switches.values()]
-    lines += [f"cable {end_text(a)} {end_text(b)}" for a, b in routed.fabric.cables] + ["endmap", f"routes {len(ways)}"]
-    lines += [" ".join(["route", *pair, *map(turn, turns)]) for pair, (_, turns) in ways.items()]
-    numbers = ranks(found)
-    lines += [f"rank {end_text(end)} {numbers[end]}" for end in sorted(numbers, key=lambda it: (place[it[0]], it[1]))]
-    lines += ["endroutes", "end injected 0 dropped 0"]
-    return "\n".join(lines) + "\n", [it for it in found if len(it) > 1]
+def end_text(called, end):
+    return f"{called[end[0]]} {turn(end[1])}"
 
 
 def turn(number):

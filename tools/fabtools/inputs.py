@@ -2,15 +2,16 @@
 
 from fabtools import damage, forms, script
 from fabtools import fabric as fabrics
+from fabtools.converting import excess
 from fabtools.entry import Failure
 from fabtools.report import Report
 from fabtools.run import Run
 
 
-def fabric(path=None):
-    """The fabric of a text, with its script as it stands there."""
+def fabric(path=None, is_bound=True):
+    """The fabric of a text, with its script as it stands there; where it isn't bound it may be larger than the program takes."""
     try:
-        return fabrics.read(fabrics.load(path))
+        return fabrics.read(fabrics.load(path), is_bound)
     except forms.Fault as fault:
         raise Failure(f"{path or 'standard input'}: {fault}") from None
 
@@ -30,9 +31,11 @@ def report_alone(path=None):
 
 
 def run(text, report=None):
-    """A text with its report, which must be that of the text's script."""
-    fabric = accepted(text)
-    return Run(fabric, damage.report_of(fabric, fabrics.load(report), report or "standard input"))
+    """A text with its report, which must be that of the text's script; a fabric that is too large for the program has none."""
+    if report is None and excess(fabric(text, is_bound=False)):
+        return drawn(text)
+    accepted_fabric = accepted(text)
+    return Run(accepted_fabric, damage.report_of(accepted_fabric, fabrics.load(report), report or "standard input"))
 
 
 def planned(plan, report=None):
@@ -45,4 +48,4 @@ def planned(plan, report=None):
 
 def drawn(text):
     """A text's fabric alone."""
-    return Run(fabric(text), Report(""))
+    return Run(fabric(text, is_bound=False), Report(""))

@@ -350,7 +350,8 @@ def stressed(fabric):
     if len(names) < 2:
         return {it: (0, 0) for it in names}
     at = {it: (unit * math.cos(6.2832 * k / len(names)), unit * math.sin(6.2832 * k / len(names))) for k, it in enumerate(names)}
-    for _ in range(200):
+    # Fewer rounds of a large fabric, each of which looks at every two switches.
+    for _ in range(max(3, min(200, 3_000_000 // len(names) ** 2))):
         for name in names:
             at[name] = pulled(name, names, at, apart[name], unit)
     return {it: (1.2 * x, 0.9 * y) for it, (x, y) in laid_down(at).items()}

@@ -76,7 +76,8 @@ class Routed:
             if before[0] not in self.ranks or after[0] not in self.ranks:
                 yield f"a channel of {named} has no rank"
             elif not self.ranks[before[0]] < self.ranks[after[0]]:
-                yield f"the rank falls from {channel_text(before)} to {channel_text(after)} on {named}"
+                does = "stays the same" if self.ranks[before[0]] == self.ranks[after[0]] else "falls"
+                yield f"the rank {does} from {channel_text(before)} to {channel_text(after)} on {named}"
 
     def lengths(self):
         return Counter(len(it.way) for it in self.routes)

@@ -6,3 +6,5 @@ done
 printf '' | from-ibnetdiscover
 echo "status $?"
 from-ibnetdiscover names.txt --map node-1
+# A switch alone, and an adapter without a cable.
+printf 'Switch 8 "s"\nHca 2 "h"\n' | from-ibnetdiscover
