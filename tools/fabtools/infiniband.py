@@ -18,7 +18,7 @@ BETWEEN = re.compile(r"#|\w+\s*=|(Non-)?Chassis|\w+ Nodes\b", re.I)
 # What ibnetdiscover writes of each node; it prints none without a cable.
 OF_NODE = re.compile(r"(switch|ca|rt)guid=", re.I)
 # The lid of a line's own port; that of the far end has no `lmc`.
-OWN_LID = re.compile(r"\blid (\d+) lmc (\d)\b")
+OWN_LID = re.compile(r"\blid (\d+) lmc ([0-7])\b")
 
 # Other forms of these tools, by a line that only they have.
 OTHERS = (

@@ -8,6 +8,7 @@ HEAD = re.compile(r"\s*\S.* 0x([0-9a-f]+), base LID", re.I)
 LANES = re.compile(r"\s*(\d+)\s+(\d+)\s*:((?:\s*\d+){16})\s*\Z")
 # A packet with this lane is dropped.
 DROPPED = 15
+HIGHEST_LEVEL = 15
 
 
 class NoLanes(Exception):
@@ -17,12 +18,14 @@ class NoLanes(Exception):
 def read_paths(text):
     """The service level of each path by its two LIDs: of records as saquery prints them, or of lines `SLID DLID SL`."""
     levels, record = {}, {}
-    for line in text.splitlines():
+    for number, line in enumerate(text.splitlines(), 1):
         field, row = FIELD.match(line), ROW.match(line)
         if field:
             record[field[1].lower()] = int(field[2], 0)
         if row:
             record = dict(zip(("slid", "dlid", "sl"), map(int, row.groups())))
+        if record.get("sl", 0) > HIGHEST_LEVEL:
+            raise NoLanes(f"line {number}: there is no service level {record['sl']}: they are 0 to {HIGHEST_LEVEL}")
         if len(record) == 3:
             levels[record["slid"], record["dlid"]] = record["sl"]
             record = {}

@@ -274,7 +274,8 @@ class Free:
 def pushed_apart(spots, sizes):
     """The places, where boxes that overlap have pushed each other away, along the way that is shorter."""
     spots, names = {it: list(at) for it, at in spots.items()}, list(spots)
-    for _ in range(300):
+    # Fewer rounds of a large fabric, each of which looks at every two boxes.
+    for _ in range(max(3, min(300, 20_000_000 // (len(names) ** 2 + 1)))):
         moved = False
         for at, one in enumerate(names):
             for other in names[at + 1 :]:
