@@ -5,17 +5,27 @@ No two port numbers meet, since each port of a box has a slot of its own at the 
 
 from html import escape
 
-from fabtools.layout import layout_of
+from fabtools.arranging import layout_of
 
 SLOT, NAME, SMALL, PORT = 13, 12, 10, 8
 MARGIN, LOOP, STUB = 16, 30, 22
-# The ways out of a box by its sides; a corner is the right half of the lower side.
-OUT = {"top": (0, -1), "bottom": (0, 1), "left": (-1, 0), "right": (1, 0), "corner": (0, 1)}
+# The ways out of a box by its sides; a corner is the right half of the lower side, front its left one, and back the right
+# half of the upper side.
+OUT = {"top": (0, -1), "bottom": (0, 1), "left": (-1, 0), "right": (1, 0)}
+OUT.update(corner=(0, 1), front=(0, 1), back=(0, -1))
+HALF = {"corner": 1, "front": -1, "back": 1}
+# The piece of a cable that goes to another slice: how far aside, and how far up or down.
+LEAN, RISE, FRAME = 11, 15, 12
 
 
 def wide(text, size):
     """About how wide a text is."""
     return 0.62 * size * len(text)
+
+
+def halves(*counts):
+    """The slots of a side of which halves have so many."""
+    return 2 * max(counts) + 1 if any(counts) else 0
 
 
 class Drawing:
@@ -55,10 +65,11 @@ class Drawing:
         slots = {side: len(ends) for side, ends in self.slots[name].items()}
         shows = self.ports and name in self.fabric.switches
         text = max(wide(name, NAME), wide(self.notes.get(name, ""), SMALL))
-        below = max(slots["bottom"], 2 * slots["corner"] + bool(slots["corner"]))
-        across = max(text + 14 + (18 if shows else 0) * bool(slots["left"] or slots["right"]), SLOT * max(slots["top"], below) + 8)
+        below = max(slots["bottom"], halves(slots["corner"], slots["front"]))
+        above = max(slots["top"], halves(slots["back"]))
+        across = max(text + 14 + (18 if shows else 0) * bool(slots["left"] or slots["right"]), SLOT * max(above, below) + 8)
         lines = 17 + (13 if self.notes.get(name) else 0)
-        down = lines + 5 + (9 if shows else 0) * (bool(slots["top"]) + bool(below))
+        down = lines + 5 + (9 if shows else 0) * (bool(above) + bool(below))
         return across, max(down, SLOT * max(slots["left"], slots["right"]) + 6)
 
     def place_ends(self, name):
@@ -68,7 +79,7 @@ class Drawing:
             along = 0 if OUT[side][0] == 0 else 1
             ends.sort(key=lambda it: (self.far_along(it, along), it[1]))
             for at, end in enumerate(ends):
-                shift = SLOT * (at + 1 if side == "corner" else at - (len(ends) - 1) / 2)
+                shift = SLOT * (HALF[side] * (at + 1) if side in HALF else at - (len(ends) - 1) / 2)
                 ox, oy = OUT[side]
                 self.ends[end] = (x + ox * across / 2 + (0 if along else shift), y + oy * down / 2 + (shift if along else 0), side)
 
@@ -84,11 +95,33 @@ class Drawing:
             bend = self.bend(*self.taken[cable]) or ()
             boxes += [(*it, *it) for it in bend]
             boxes += [(x - w, y - 6, x + w, y + 6) for _, w, x, y in self.labels(cable)]
+        boxes += [it[1:] for it in self.frames()]
         left, top = (min((it[k] for it in boxes), default=0) - MARGIN for k in (0, 1))
         right, bottom = (max((it[k] for it in boxes), default=0) + MARGIN for k in (2, 3))
         self.spots = {name: (x - left, y - top) for name, (x, y) in self.spots.items()}
         self.ends = {end: (x - left, y - top, side) for end, (x, y, side) in self.ends.items()}
         self.width, self.height = right - left, bottom - top
+
+    def frames(self):
+        """The frames that a layout has, each as what it is called, its left and upper and its right and lower corner."""
+        for name, inner in self.layout.frames() if hasattr(self.layout, "frames") else ():
+            boxes = [(*self.spots[it], *self.sizes[it]) for it in inner]
+            boxes += [box for cable in self.cables for box in self.label_boxes(cable, inner)]
+            left, top = min(x - w / 2 for x, _, w, _ in boxes), min(y - h / 2 for _, y, _, h in boxes)
+            right, bottom = max(x + w / 2 for x, _, w, _ in boxes), max(y + h / 2 for _, y, _, h in boxes)
+            yield name, left - FRAME, top - FRAME - (NAME if name else 0), right + FRAME, bottom + FRAME
+
+    def label_boxes(self, cable, names):
+        """The boxes of the labels at those ends of a cable that are at some vertices."""
+        for end, (_, half, x, y) in zip(cable, self.labels(cable)):
+            if end[0] in names:
+                yield x, y, 2 * half, SMALL
+
+    def frame_texts(self):
+        for name, x, y, right, bottom in self.frames():
+            yield f'<rect class="frame" x="{x:.1f}" y="{y:.1f}" width="{right - x:.1f}" height="{bottom - y:.1f}" rx="10"/>'
+            if name:
+                yield f'<text class="note" x="{x + 8 + wide(name, SMALL) / 2:.1f}" y="{y + 14:.1f}">{escape(name)}</text>'
 
     def bend(self, a, b):
         """The two places that a curved cable is drawn to, or None for a straight one: arcs leave and enter by the same side."""
@@ -105,14 +138,17 @@ class Drawing:
     def stubs(self, a, b):
         """Where the pieces of a cable end that is cut."""
         for x, y, side in (self.ends[a], self.ends[b]):
-            yield x + STUB * OUT[side][0], y + STUB * OUT[side][1]
+            is_aside = side in ("front", "back")
+            by = (HALF[side] * LEAN, RISE * OUT[side][1]) if is_aside else (STUB * OUT[side][0], STUB * OUT[side][1])
+            yield x + by[0], y + by[1]
 
     def labels(self, cable):
         """For a cable that is cut, the vertex of the other piece beside each: its name, half its width, and its middle."""
         if self.is_cut(*cable):
             slots = self.taken[cable]
             for slot, far, (x, y) in zip(slots, reversed(cable), self.stubs(*slots)):
-                (ox, oy), half = OUT[self.ends[slot][2]], wide(far[0], SMALL) / 2
+                side, half = self.ends[slot][2], wide(far[0], SMALL) / 2
+                ox, oy = (HALF[side], 0.3 * OUT[side][1]) if side in ("front", "back") else OUT[side]
                 yield far[0], half, x + ox * (4 + half), y + 7 * oy
 
     def label_texts(self, cable):
@@ -150,7 +186,8 @@ class Drawing:
         shows = self.ports and name in self.fabric.switches
         # Numbers at one side alone push the name from the middle.
         slots = self.slots[name]
-        y += 4.5 * (shows and bool(slots["top"])) - 4.5 * (shows and bool(slots["bottom"] or slots["corner"]))
+        y += 4.5 * (shows and bool(slots["top"] or slots["back"]))
+        y -= 4.5 * (shows and bool(slots["bottom"] or slots["corner"] or slots["front"]))
         note = self.notes.get(name)
         yield f'<text class="name" x="{x:.1f}" y="{y - (2.5 if note else -4):.1f}">{escape(name)}</text>'
         if note:

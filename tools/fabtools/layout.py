@@ -7,7 +7,6 @@ come first, since a box is as wide as the ports at its sides need.
 import math
 from bisect import bisect_right, insort
 
-KINDS = ("levels", "grid", "ring", "springs")
 GAP = 14
 
 
@@ -68,28 +67,6 @@ def ring_of(fabric):
             return None
         ring.append(following[0] if len(ring) > 1 else min(following, key=list(near).index))
     return ring
-
-
-def kind_of(fabric):
-    """The layout that suits a fabric: a grid or a ring where it is one, and levels where most cables lead up or down."""
-    if grid_of(fabric):
-        return "grid"
-    if ring_of(fabric):
-        return "ring"
-    level, cables = levels(fabric), between_switches(fabric)
-    flat = [(a, b) for a, b in cables if level[a[0]] == level[b[0]]]
-    far = [(a, b) for a, b in flat if abs(list(fabric.switches).index(a[0]) - list(fabric.switches).index(b[0])) > 1]
-    return "springs" if 3 * len(far) > len(cables) else "levels"
-
-
-def layout_of(fabric, kind=None, grid=None):
-    """The layout of this kind, or of the kind that suits the fabric."""
-    kind = "grid" if grid else kind or kind_of(fabric)
-    if kind == "levels":
-        return Levels(fabric)
-    if kind == "grid":
-        return Grid(fabric, grid or grid_of(fabric) or square(len(fabric.switches)))
-    return Round(fabric) if kind == "ring" else Springs(fabric)
 
 
 def square(count):
@@ -386,6 +363,9 @@ class Grid:
     """The switches in rows and columns, in the text's order, each with its hosts below it to the right. A cable round the
     edge is cut there, and each piece named by where the other is."""
 
+    # So much more room is beside a switch.
+    aside = 0
+
     def __init__(self, fabric, grid):
         self.fabric, (self.count, self.columns) = fabric, grid
         self.at = {name: divmod(index, self.columns) for index, name in enumerate(fabric.switches)}
@@ -417,7 +397,7 @@ class Grid:
         sizes.update({name: (wide, high) for name in self.at})
         hosts = {name: hosts_of(self.fabric, name) for name in self.at}
         below = max((sum(sizes[it][0] + GAP / 2 for it in found) for found in hosts.values()), default=0)
-        across, down = wide + max(below + GAP, 50), high + (58 if below else 40)
+        across, down = wide + max(below + GAP, 50) + self.aside, high + (58 if below else 40)
         spots = {name: (c * across, r * down) for name, (r, c) in self.at.items()}
         for name, found in hosts.items():
             x, y = spots[name]

@@ -1,5 +1,6 @@
 """Fabrics of known shapes: fat trees of two and three levels, tori, rings, dragonflies, and random ones."""
 
+from itertools import product
 from random import Random
 
 from fabtools.fabric import MOST_HOSTS, MOST_SWITCHES, PORT_COUNTS, Fabric
@@ -95,24 +96,23 @@ def pod_of(made, pod, half):
     return upper
 
 
-def torus(rows, columns, hosts):
-    """Rows and columns, each closed to a ring where it has more than two switches."""
-    made = Builder(least_ports(4 + hosts))
-    names = [made.switch(f"s{it}") for it in range(rows * columns)]
-    for name in names:
+def torus(sizes, hosts):
+    """A grid of two or three dimensions, each row of each closed to a ring where it has more than two switches."""
+    made, places = Builder(least_ports(2 * len(sizes) + hosts)), list(product(*map(range, sizes)))
+    is_flat = len(sizes) == 2
+    names = {it: made.switch(f"s{at}" if is_flat else f"s{'_'.join(map(str, it))}") for at, it in enumerate(places)}
+    for name in names.values():
         made.hosts_at(name, hosts)
-    for row in range(rows):
-        for column in range(columns):
-            here = names[row * columns + column]
-            if columns > 1 and (column + 1 < columns or columns > 2):
-                made.join(here, names[row * columns + (column + 1) % columns])
-            if rows > 1 and (row + 1 < rows or rows > 2):
-                made.join(here, names[(row + 1) % rows * columns + column])
+    for place in places:
+        for at in reversed(range(len(sizes))):
+            if sizes[at] > 2 or place[at] + 1 < sizes[at]:
+                beside = (*place[:at], (place[at] + 1) % sizes[at], *place[at + 1 :])
+                made.join(names[place], names[beside])
     return made.fabric
 
 
 def ring(count, hosts):
-    return torus(1, count, hosts)
+    return torus((1, count), hosts)
 
 
 def dragonfly(groups, size, hosts):

@@ -66,10 +66,35 @@ at("loads").click(); tried.push(at("c0").querySelector(".wire").style.stroke);
 at("ports").click(); tried.push(at("fabric").className);
 at("theme").click(); tried.push(document.documentElement.dataset.theme);
 at("kinds").firstChild.click(); tried.push(at("events").children.length);
-at("zoom").lastChild.click(); tried.push(at("fabric").style.getPropertyValue("--zoom"));
-setTimeout(() => { press(document.body, "Escape"); tried.push(open()); document.body.dataset.tried = tried.join("|"); }, 50);
+at("zoom").children[1].click(); tried.push(at("fabric").style.getPropertyValue("--zoom"));
+// What the pointer is at stays there under the wheel, and moves along with a drag, which is no click.
+const box = (id) => at(id).querySelector("rect").getBoundingClientRect();
+const place = (id) => [box(id).left + box(id).width / 2, box(id).top + box(id).height / 2];
+const near = (one, other, by) => Math.hypot(one[0] + by[0] - other[0], one[1] + by[1] - other[1]) < 3;
+const mouse = (it, name, [clientX, clientY]) => it.dispatchEvent(
+  new PointerEvent(name, { clientX, clientY, button: 0, pointerType: "mouse", bubbles: true, cancelable: true }));
+const stage = at("fabric");
+const [was, host] = [place("v_h9"), at("v_h9")];
+stage.dispatchEvent(new WheelEvent("wheel", { clientX: was[0], clientY: was[1], deltaY: -400, bubbles: true, cancelable: true }));
+tried.push(near(was, place("v_h9"), [0, 0]));
+mouse(host, "pointerdown", was); mouse(host, "pointermove", [was[0] - 40, was[1] + 30]); mouse(host, "pointerup", was); click("v_h9");
+tried.push(near(was, place("v_h9"), [-40, 30]) + " " + at("from").value);
+at("find").value = "leaf"; at("find").dispatchEvent(new Event("input")); press(at("find"), "Enter");
+tried.push(at("matches").textContent + " " + document.querySelectorAll(".vertex.found").length);
+// Tab reaches one item of each list; the pairs of an open cable are aside of it.
+const stops = (id) => [...at(id).querySelectorAll("summary, button, li")].filter((it) => it.tabIndex >= 0).length;
+at("zoom").children[2].click();
+setTimeout(() => {
+  tried.push(stops("cables") + " " + stops("events"));
+  document.querySelector("details[open] summary").focus(); press(document.activeElement, "ArrowRight");
+  tried.push(document.activeElement.textContent, location.hash);
+  press(document.body, "Escape"); tried.push(open()); document.body.dataset.tried = tried.join("|");
+}, 50);
 </script>"""
-DONE = "d5|d6|true|h2 h9|h9 h2||no-ports|light|0|1.4|"
+DONE = (
+    "d5|d6|true|h2 h9|h9 h2||no-ports|light|0|1.4|true|true h9|4 4|1 0|h6 › h0|"
+    "#from=h9&to=h2&cable=h6:0&find=leaf&loads=no&ports=no&lines=&theme=light|"
+)
 
 
 def by_hand(chromium, folder):
@@ -120,7 +145,6 @@ def faults(chromium, name, examples, folder):
     way = run.way(a, b)
     pairs = sum(busiest in it or busiest[::-1] in it for it in (fabrics.follow(run.fabric, s, t)[0] for s, _, t in run.routes))
     over = [it for it in seen.of("path") if "marker-end" in it]
-    summaries = [it for it in seen.of("details") if "open" in it]
     wanted = {
         "the code ran to its end": (seen.of("body")[0].get("data-ready"), "yes"),
         "it is dark where that is asked": (seen.of("html")[0].get("data-theme"), "dark"),
@@ -130,7 +154,7 @@ def faults(chromium, name, examples, folder):
         "each cable in the list": (len(seen.of("details")), len(run.fabric.cables)),
         "an arrow for each cable of the route": (len(over), len(way)),
         "the route's ports": (seen.texts["way"], f"{len(way)} cables: " + " ".join(f"{p[0]}:{p[1]}>{q[0]}:{q[1]}" for p, q in way)),
-        "the chosen cable is open": ([it.get("id") for it in summaries], [f"d{cable}"]),
+        "the chosen cable is open": ([it.get("id") for it in seen.of("details") if "open" in it], [f"d{cable}"]),
         "a button for each pair over it": (sum(" › " in it for it in pieces(seen.texts["cables"])), pairs),
         "the map's name of each switch": (all(f"#{it}" in seen.texts["fabric"] for it in range(len(run.fabric.switches))), True),
         "the report": (seen.texts["report"], report),

@@ -100,6 +100,7 @@ function fillPairs(cable, box) {
     for (const { from, to } of found) {
       const button = make("button", `${from} › ${to}`);
       button.type = "button";
+      button.tabIndex = -1;
       button.onclick = () => choosePair(from, to);
       box.append(button);
     }
@@ -123,6 +124,7 @@ function listCables() {
     box.id = `d${cable}`;
     box.name = "cable";
     const head = document.createElement("summary");
+    head.tabIndex = -1;
     const meter = make("span", "", "meter");
     const bar = document.createElement("i");
     const load = Math.max(...loads[cable]);
@@ -165,6 +167,7 @@ function listEvents() {
       return item;
     }),
   );
+  if (events.length) at("events").firstChild.tabIndex = 0;
   if (events.length > MOST_LINES) at("events").append(make("li", `and ${events.length - MOST_LINES} more`));
 }
 
@@ -173,11 +176,12 @@ function listKinds() {
     const count = data.events.filter((it) => it.kind === kind).length;
     const button = make("button", `${kind} ${count}`);
     button.type = "button";
-    button.setAttribute("aria-pressed", shown.has(kind));
+    button.dataset.kind = kind;
     button.onclick = () => {
       if (!shown.delete(kind)) shown.add(kind);
       button.setAttribute("aria-pressed", shown.has(kind));
       listEvents();
+      keep();
     };
     at("kinds").append(button);
   }
@@ -185,59 +189,184 @@ function listKinds() {
 
 // What is chosen stands in the address, so that it can be kept and sent on.
 function keep() {
-  const chosenCable = chosen === null ? "" : `&cable=${data.cables[chosen][0]}`;
+  const said = { from: at("from").value, to: at("to").value };
+  if (chosen !== null) said.cable = data.cables[chosen][0];
+  if (at("find").value) said.find = encodeURIComponent(at("find").value);
+  for (const id of ["loads", "ports"]) if (!at(id).checked) said[id] = "no";
+  if ([...shown].sort().join() !== usual.sort().join()) said.lines = [...shown].join();
+  if (asked.has("theme")) said.theme = document.documentElement.dataset.theme;
+  if (zoom > 1) said.zoom = zoom.toFixed(2);
+  asked = new URLSearchParams(Object.entries(said));
   try {
-    history.replaceState(null, "", `#from=${at("from").value}&to=${at("to").value}${chosenCable}`);
+    history.replaceState(null, "", `#${Object.entries(said).map((it) => it.join("=")).join("&")}`);
   } catch { /* a page without an address of its own */ }
 }
 
-// Up and down go through a list whose items are focused one at a time.
+// One of a list's items is reached by Tab, and the others from it: up and down, and in a cable its pairs by left and right.
 function arrows(list, items, act) {
+  const reach = (it) => {
+    list.querySelectorAll(`${items}[tabindex="0"]`).forEach((other) => { other.tabIndex = -1; });
+    it.tabIndex = 0;
+  };
+  list.addEventListener("focusin", (event) => { if (event.target.matches(items)) reach(event.target); });
   list.onkeydown = (event) => {
-    const step = { ArrowDown: 1, ArrowUp: -1 }[event.key];
     const all = [...list.querySelectorAll(items)];
     const here = all.indexOf(document.activeElement);
-    if (step && all.length) {
+    const to = { ArrowDown: here + 1, ArrowUp: here - 1, Home: 0, End: all.length - 1 }[event.key];
+    if (to !== undefined && all.length) {
       event.preventDefault();
-      all[Math.max(0, Math.min(all.length - 1, here + step))].focus();
+      all[Math.max(0, Math.min(all.length - 1, to))].focus();
     } else if (event.key === "Enter" && here >= 0 && act) act(all[here]);
+    else goAside(event);
+  };
+  if (list.querySelector(items)) reach(list.querySelector(items));
+}
+
+function goAside(event) {
+  const step = { ArrowRight: 1, ArrowLeft: -1 }[event.key];
+  const box = document.activeElement.closest("details[open]");
+  if (!step || !box) return;
+  event.preventDefault();
+  const all = [box.querySelector("summary"), ...box.querySelectorAll("button")];
+  all[Math.max(0, Math.min(all.length - 1, all.indexOf(document.activeElement) + step))].focus();
+}
+
+// The picture's size, 1 being the one that fits. What is at a place of the window, or in the middle, stays there.
+let zoom = 1;
+const MOST_ZOOM = 16;
+function enlarge(to, x, y) {
+  const stage = at("fabric");
+  const picture = stage.querySelector("svg");
+  const { left, top } = stage.getBoundingClientRect();
+  const place = [x ?? left + stage.clientWidth / 2, y ?? top + stage.clientHeight / 2];
+  const before = picture.getBoundingClientRect();
+  const share = [(place[0] - before.left) / before.width, (place[1] - before.top) / before.height];
+  zoom = Math.min(MOST_ZOOM, Math.max(1, to));
+  stage.style.setProperty("--zoom", zoom);
+  const after = picture.getBoundingClientRect();
+  stage.scrollLeft += after.left + share[0] * after.width - place[0];
+  stage.scrollTop += after.top + share[1] * after.height - place[1];
+}
+
+// The wheel enlarges where the pointer is; at the picture's least size it scrolls the page on.
+function turnWheel(event) {
+  if (zoom === 1 && event.deltaY > 0) return;
+  event.preventDefault();
+  enlarge(zoom * Math.exp(-event.deltaY / 400), event.clientX, event.clientY);
+  keep();
+}
+
+// The mouse drags the picture; a finger does so by itself. What was dragged isn't clicked.
+let dragged = null;
+function drag(event) {
+  const stage = at("fabric");
+  const by = [event.clientX - dragged.x, event.clientY - dragged.y];
+  if (!dragged.moved && Math.hypot(...by) < 5) return;
+  dragged.moved = true;
+  stage.classList.add("dragged");
+  stage.scrollTo(dragged.left - by[0], dragged.top - by[1]);
+}
+
+function listenToMouse(stage) {
+  stage.addEventListener("wheel", turnWheel, { passive: false });
+  stage.onpointerdown = ({ button, pointerType, clientX: x, clientY: y }) => {
+    if (button === 0 && pointerType === "mouse") dragged = { x, y, left: stage.scrollLeft, top: stage.scrollTop, down: true };
+  };
+  window.addEventListener("pointermove", (event) => { if (dragged && dragged.down) drag(event); });
+  for (const end of ["pointerup", "pointercancel"]) {
+    window.addEventListener(end, () => {
+      if (dragged) dragged.down = false;
+      stage.classList.remove("dragged");
+    });
+  }
+  stage.addEventListener("click", (event) => { if (dragged && dragged.moved) event.stopPropagation(); dragged = null; }, true);
+}
+
+function listenToKeys(stage) {
+  stage.onkeydown = (event) => {
+    const to = { "+": zoom * 1.4, "=": zoom * 1.4, "-": zoom / 1.4, 0: 1 }[event.key];
+    if (to === undefined || event.ctrlKey || event.metaKey) return;
+    enlarge(to);
+    keep();
   };
 }
 
-// The picture's size, 1 being the one that fits.
-let zoom = 1;
-function enlarge(by) {
-  zoom = Math.min(8, Math.max(1, zoom * by));
-  at("fabric").style.setProperty("--zoom", zoom);
+// The hosts and switches whose names have the text that is looked for; the one so called comes first.
+const names = [...document.querySelectorAll(".vertex")].map((it) => it.id.slice(2));
+let matches = [];
+let next = 0;
+function find() {
+  const text = at("find").value.trim().toLowerCase();
+  const rank = (it) => (it === text ? 0 : it.startsWith(text) ? 1 : 2);
+  matches = text ? names.filter((it) => it.includes(text)).sort((a, b) => rank(a) - rank(b)) : [];
+  next = 0;
+  document.querySelectorAll(".vertex.found").forEach((it) => it.classList.remove("found"));
+  for (const it of matches) at(`v_${it}`).classList.add("found");
+  at("matches").textContent = text ? `${matches.length || "none"}` : "";
+}
+
+// Shows the next of them in the middle, and so large that its name can be read.
+function showNext() {
+  if (!matches.length) return;
+  const stage = at("fabric");
+  const vertex = at(`v_${matches[next++ % matches.length]}`).querySelector("rect");
+  const high = vertex.getBoundingClientRect().height;
+  if (high < 18) enlarge((zoom * 22) / high);
+  const [box, room] = [vertex.getBoundingClientRect(), stage.getBoundingClientRect()];
+  stage.scrollLeft += box.left + box.width / 2 - room.left - stage.clientWidth / 2;
+  stage.scrollTop += box.top + box.height / 2 - room.top - stage.clientHeight / 2;
 }
 
 function theme(name) {
   document.documentElement.dataset.theme = name;
 }
 
-function begin() {
-  const asked = new URLSearchParams(location.hash.slice(1));
+// What the address asks for.
+let asked = new URLSearchParams(location.hash.slice(1));
+const usual = [...shown];
+function takeAddress() {
+  asked = new URLSearchParams(location.hash.slice(1));
   theme(asked.get("theme") || (matchMedia("(prefers-color-scheme: dark)").matches ? "dark" : "light"));
-  for (const id of ["from", "to"]) data.hosts.forEach((it) => at(id).add(new Option(it, it)));
-  at("from").value = data.hosts.includes(asked.get("from")) ? asked.get("from") : data.hosts[0];
-  at("to").value = data.hosts.includes(asked.get("to")) ? asked.get("to") : data.hosts[data.hosts.length - 1];
-  const cable = data.cables.findIndex((it) => it.includes(asked.get("cable")));
-  listCables();
-  listKinds();
+  const host = (id, other) => (data.hosts.includes(asked.get(id)) ? asked.get(id) : other);
+  at("from").value = host("from", data.hosts[0]);
+  at("to").value = host("to", data.hosts[data.hosts.length - 1]);
+  for (const id of ["loads", "ports"]) at(id).checked = asked.get(id) !== "no";
+  at("fabric").classList.toggle("no-ports", !at("ports").checked);
+  at("find").value = asked.get("find") || "";
+  shown.clear();
+  (asked.has("lines") ? asked.get("lines").split(",") : usual).forEach((it) => shown.add(it));
+  for (const it of at("kinds").children) it.setAttribute("aria-pressed", shown.has(it.dataset.kind));
   listEvents();
   paintLoads();
   paintWay();
+  find();
+  const cable = data.cables.findIndex((it) => it.includes(asked.get("cable")));
   if (cable >= 0) openCable(cable);
+  else if (chosen !== null) at(`d${chosen}`).open = false;
+  enlarge(Number(asked.get("zoom")) || 1);
+  if (matches.length) showNext();
+}
+
+function listenToBar() {
   for (const id of ["from", "to"]) at(id).onchange = () => choosePair(at("from").value, at("to").value);
   at("swap").onclick = () => choosePair(at("to").value, at("from").value);
-  at("loads").onchange = paintLoads;
-  at("ports").onchange = () => at("fabric").classList.toggle("no-ports", !at("ports").checked);
-  const [smaller, larger] = at("zoom").children;
-  smaller.onclick = () => enlarge(1 / 1.4);
-  larger.onclick = () => enlarge(1.4);
-  at("theme").onclick = () => theme(document.documentElement.dataset.theme === "dark" ? "light" : "dark");
+  at("find").oninput = () => { find(); keep(); };
+  at("find").onkeydown = (event) => { if (event.key === "Enter") { showNext(); keep(); } };
+  at("loads").onchange = () => { paintLoads(); keep(); };
+  at("ports").onchange = () => { at("fabric").classList.toggle("no-ports", !at("ports").checked); keep(); };
+  [...at("zoom").children].forEach((it, number) => {
+    it.onclick = () => { enlarge([zoom / 1.4, zoom * 1.4, 1][number]); keep(); };
+  });
+  at("theme").onclick = () => {
+    theme(document.documentElement.dataset.theme === "dark" ? "light" : "dark");
+    asked.set("theme", "");
+    keep();
+  };
+}
+
+// A click on a host, and on another one, chooses the route between them.
+function listenToPicture() {
   data.cables.forEach((_, it) => { at(`c${it}`).onclick = () => openCable(it); });
-  // A click on a host, and on another one, chooses the route between them.
   let first = null;
   data.hosts.forEach((host) => {
     at(`v_${host}`).onclick = () => {
@@ -245,11 +374,23 @@ function begin() {
       first = first ? null : host;
     };
   });
+  listenToMouse(at("fabric"));
+  listenToKeys(at("fabric"));
+}
+
+function begin() {
+  for (const id of ["from", "to"]) data.hosts.forEach((it) => at(id).add(new Option(it, it)));
+  listCables();
+  listKinds();
+  takeAddress();
+  listenToBar();
+  listenToPicture();
   arrows(at("cables"), "summary");
   arrows(at("events"), "li", (it) => it.click());
   document.addEventListener("keydown", (event) => {
     if (event.key === "Escape" && chosen !== null) at(`d${chosen}`).open = false;
   });
+  window.addEventListener("hashchange", takeAddress);
   document.body.dataset.ready = "yes";
 }
 begin();
