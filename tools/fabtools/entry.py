@@ -26,6 +26,13 @@ def named(text):
     return TOOL.sub("myrifab-", text) if INSTALLED.exists() else text
 
 
+class Closed:
+    """Standard input that isn't open."""
+
+    def __getattr__(self, name):
+        raise OSError(errno.EBADF, os.strerror(errno.EBADF), "standard input")
+
+
 class Named:
     """Standard error, on which tools have the names under which they are installed."""
 
@@ -52,7 +59,8 @@ def start(main, told):
 
 
 def open_streams():
-    """Standard error with the tools' names, and what can be shown for what can't be written."""
+    """Standard error with the tools' names, and what can be shown in place of what can't; input that is closed says so."""
+    sys.stdin = sys.stdin or Closed()
     sys.stderr = Named(sys.stderr or open(os.devnull, "w"))
     if sys.stdout:
         sys.stdout.reconfigure(errors="backslashreplace")

@@ -1,7 +1,6 @@
 """The text of a fabric and its script, as the program reads it: names, ports, cables, and the script's lines as words."""
 
 import errno
-import os
 import sys
 from pathlib import Path
 
@@ -17,8 +16,6 @@ def load(path=None):
     """The text of a file, or of standard input without one, each byte a character."""
     try:
         read = Path(path).read_bytes() if path is not None else sys.stdin.buffer.read()
-    except AttributeError:
-        raise OSError(errno.EBADF, os.strerror(errno.EBADF), "standard input") from None
     except OSError as error:
         raise OSError(error.errno, error.strerror, path or "standard input") from None
     except ValueError as error:

@@ -27,12 +27,12 @@ def groups_of(fabric):
 def largest_with(name, near, left):
     """The largest group with a switch that was met, each begun with one of the switches that it is cabled with."""
     found = [name]
-    for other in left:
-        if other in near[name]:
-            group = [name, other]
-            group += [it for it in left if it not in group and near[it] >= set(group)]
-            group = [it for at, it in enumerate(group) if near[it] >= set(group[:at])]
-            found = max(found, group, key=len)
+    for other in near[name] & left.keys():
+        group = {name, other}
+        for it in sorted(near[name] & near[other] & left.keys()):
+            if near[it] >= group:
+                group.add(it)
+        found = max(found, group, key=len)
     return found
 
 

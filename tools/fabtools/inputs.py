@@ -9,7 +9,7 @@ from fabtools.run import Run
 
 
 def fabric(path=None, is_bound=True):
-    """The fabric of a text, with its script as it stands there; where it isn't bound it may be larger than the program takes."""
+    """The fabric of a text, with its script as it stands there; unbound it may be larger than the program takes."""
     try:
         return fabrics.read(fabrics.load(path), is_bound)
     except forms.Fault as fault:
@@ -31,7 +31,7 @@ def report_alone(path=None):
 
 
 def run(text, report=None):
-    """A text with its report, which must be that of the text's script; a fabric that is too large for the program has none."""
+    """A text with its report, which must be that of its script; a fabric that is too large for the program has none."""
     if report is None and excess(fabric(text, is_bound=False)):
         return drawn(text)
     accepted_fabric = accepted(text)

@@ -1,4 +1,4 @@
-"""Each tool over damaged reports and texts: a documented status, one line where that is 2, and never a traceback.
+"""Each tool over damaged reports, texts and netlists: a documented status, one line where that is 2, and never a traceback.
 
 usage: python3 damaged.py     in tools/tests; prints each fault, and how many there are
 """
@@ -25,6 +25,7 @@ EXAMPLES = TOOLS.parent / "examples"
 RUNS = [EXAMPLES / it for it in ("two-hosts", "lost-part", "pulled-and-plugged", "circuit-links", "duo-restart")]
 RUNS += [EXAMPLES / "refused-calls", EXAMPLES / "ring-too-shallow", TOOLS / "tests/moves", TOOLS / "tests/fragments"]
 WORDS = ["", "0", "-1", "+3", "9" * 30, "9" * 5000, "x", "#0", "#7", "a", "zz", "end", "refused", "endmap", "\x00", "\xe9", "="]
+NETLISTS = ("ibnetdiscover.txt", "updn-lfts.txt")
 FULL = "/dev/full"
 MANY = 500
 
@@ -145,6 +146,17 @@ def of_text(looks, folder, file, what, text):
     looks.look(told, "try", damaged, "--next", *RNG.choice((["map"], ["plug", "s"], ["x"])))
 
 
+def of_netlist(looks, folder, at, what, text):
+    """The tools that take what other programs print, with one of the two files damaged."""
+    files = [TOOLS / "tests" / it for it in NETLISTS]
+    files[at] = folder / "damaged.txt"
+    files[at].write_bytes(text.encode("latin-1"))
+    told = f"{NETLISTS[at]}, {what}"
+    looks.look(told, "judge-routes", *files, *RNG.choice(([], ["--text"], ["--json"])), allowed=(0, 1, 2, 3))
+    if at == 0:
+        looks.look(told, "from-ibnetdiscover", files[at], *RNG.choice(([], ["--map", "h1"])))
+
+
 def others(looks):
     """Reports of other texts: none is explained or drawn, and a judge says no."""
     for one in RUNS:
@@ -164,7 +176,7 @@ def report_of(run):
 def full(looks):
     """Each tool over a device without room: status 2, and why."""
     text, report = EXAMPLES / "two-hosts.in", EXAMPLES / "two-hosts.out"
-    netlist, lfts = (TOOLS / "tests" / it for it in ("ibnetdiscover.txt", "updn-lfts.txt"))
+    netlist, lfts = (TOOLS / "tests" / it for it in NETLISTS)
     calls = [["explain", text, report], ["page", text, report], ["dot", text], ["dot", text, "--svg", "-"]]
     calls += [["compare", text, report], ["compare", EXAMPLES / "room.in", report], ["judge", text, report]]
     calls += [["judge", text, text], ["judge-model", text, report], ["what-if", text, "--each"], ["make", "ring", "4"]]
@@ -186,6 +198,9 @@ def main():
             of_report(looks, Path(folder), file, what, text)
         for file, what, text in some([it.with_suffix(".in") for it in RUNS], MANY // 2):
             of_text(looks, Path(folder), file, what, text)
+        for at, name in enumerate(NETLISTS):
+            for _, what, text in some([TOOLS / "tests" / name], MANY // 20):
+                of_netlist(looks, Path(folder), at, what, text)
     others(looks)
     if os.path.exists(FULL):
         full(looks)

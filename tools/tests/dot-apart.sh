@@ -10,7 +10,7 @@ from fabtools.drawing import Drawing, OUT
 
 fabrics = {it.stem: fabric.read(it.read_text()) for it in sorted(Path("../../examples").glob("*.in")) if not it.stem.startswith(("gen", "refused"))}
 fabrics |= {"fat tree of three": shapes.fat_tree_of_three(4), "fat tree of 128 hosts": shapes.fat_tree(16), "dragonfly": shapes.dragonfly(5, 4, 2)}
-fabrics |= {"torus of 8 by 8": shapes.torus(8, 8, 2), "ring of 24": shapes.ring(24, 1), "random": shapes.random(14, 24, 1, 4)}
+fabrics |= {"torus of 8 by 8": shapes.torus((8, 8), 2), "ring of 24": shapes.ring(24, 1), "random": shapes.random(14, 24, 1, 4)}
 for name, one in fabrics.items():
     drawn = Drawing(one, notes={it: "#12" for it in one.switches})
     numbers = [(x - 6.5 * OUT[side][0], y - 6 * OUT[side][1]) for end, (x, y, side) in drawn.ends.items() if end[0] in one.switches]
