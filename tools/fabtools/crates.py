@@ -60,3 +60,9 @@ def chain(below):
 def above(below, name):
     """The crates that stand on this one, directly or not."""
     return sorted(it for it, all_below in reach(below).items() if name in all_below)
+
+
+def bottom_up(below):
+    """The crates in an order in which each stands behind those that it stands on."""
+    all_below = reach(below)
+    return sorted(below, key=lambda it: len(all_below[it]))

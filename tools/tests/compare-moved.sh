@@ -1,1 +1,1 @@
-compare ../../crates/rows/data/map-over-a-new-cable.in ../../crates/rows/data/map-over-a-new-cable.out
+compare ../../crates/worked_runs/data/map-over-a-new-cable.in ../../crates/worked_runs/data/map-over-a-new-cable.out

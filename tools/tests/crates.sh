@@ -1,5 +1,5 @@
 # A small repository: one crate alone stands on what it should of the kit, the page lacks a crate, has one that is gone and one too early,
-# a definition isn't where it was, and of what carries a promise a law and a clause are gone.
+# a definition isn't where it was, of what carries a promise a law and a clause are gone, and it has one must-fail edit too many.
 root=$(mktemp -d)
 trap 'rm -rf "$root"' EXIT
 mkdir -p "$root/docs/pictures" "$root/crates/net_defs/specs" "$root/crates/net_defs/src"
@@ -27,6 +27,8 @@ echo 'ensures hosts' > "$root/crates/fabric_run/src/top.rt"
 echo 'pub fn fabrics' > "$root/crates/map_laws/src/lib.rt"
 printf 'abbrev pub far : A\n' > "$root/crates/net_defs/specs/Network.antt"
 printf '%s\n' '//! What a fabric is: hosts, switches' '//! and cables. It holds none.' '//!' '//! More.' > "$root/crates/net_defs/src/lib.rt"
+mkdir "$root/crates/map_laws/must-fail"
+touch "$root/crates/map_laws/must-fail/"{1..46}.edit
 draw-crates "$root" > "$root/docs/pictures/laws.svg"
 list-crates "$root" > "$root/crates/README.md"
 check-crates "$root" | grep "^check-crates"

@@ -8,7 +8,7 @@ grep -E 's0:0 - s1:1|s3:0 - s0:1|at most' "$picture"
 dot ../../examples/fat-tree.in --report ../../examples/wrong-cable.out --plan --svg "$picture"
 grep -Eo '<path class="(gone|new)"|<title>(h5|leaf3:5).*</title>|<text class="says".*' "$picture" | grep -A 1 -E 'class="(gone|new|says)'
 # A cable that was pulled, and one that was plugged.
-moved=../../crates/rows/data/map-over-a-new-cable
+moved=../../crates/worked_runs/data/map-over-a-new-cable
 dot $moved.in --report $moved.out --route a b --svg "$picture"
 grep -Eo '<path class="(gone|new|over)"|>(pulled|plugged): [^<]*' "$picture"
 # Without ports, and by levels where a grid suits.

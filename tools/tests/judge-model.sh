@@ -5,7 +5,7 @@ from pathlib import Path
 sys.dont_write_bytecode = True
 sys.path.insert(0, "..")
 from fabtools import judging
-texts = sorted(Path("../../crates/rows/data").glob("judge-*.in"))
+texts = sorted(Path("../../crates/worked_runs/data").glob("judge-*.in"))
 for it in texts:
     said, wanted = judging.verdict(it.read_bytes().decode("latin-1")), it.with_suffix(".out").read_text()
     if said + "\n" != wanted:

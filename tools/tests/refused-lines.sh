@@ -5,7 +5,7 @@ from pathlib import Path
 sys.dont_write_bytecode = True
 sys.path.insert(0, "..")
 from fabtools import fabric, script
-data = Path("../../crates/rows/data")
+data = Path("../../crates/worked_runs/data")
 def differs(name, text, wanted):
     fault = script.first_fault(text)
     got = (fault.line, fault.kind) if fault else None

@@ -17,11 +17,11 @@ use Rattle.port_ledgers.specs.Told.{Told, Opened as ToldOpened, Closed as ToldCl
 use Rattle.port_ledgers.specs.Told.{Accepted as ToldAccepted, Returned as ToldReturned, Received as ToldReceived}
 use Rattle.run_defs.specs.declared.command.Command.{Command}
 use Rattle.run_defs.specs.declared.command.Command.TheVariants.{Begin, Send}
-use Rattle.line_forms.specs.declared.line.MapSaid.TheVariants.{Complete}
-use Rattle.line_forms.specs.declared.line.ReceivedLine.{ReceivedLine}
-use Rattle.line_forms.specs.declared.line.ReportLine.{ReportLine}
-use Rattle.line_forms.specs.declared.line.ReportLine.TheVariants.{Map, Opened, Closed, Provided, Accepted, Returned}
-use Rattle.line_forms.specs.declared.line.ReportLine.TheVariants.{Received, Pull, Plug}
+use Rattle.report_lines.specs.declared.line.MapSaid.TheVariants.{Complete}
+use Rattle.report_lines.specs.declared.line.ReceivedLine.{ReceivedLine}
+use Rattle.report_lines.specs.declared.line.ReportLine.{ReportLine}
+use Rattle.report_lines.specs.declared.line.ReportLine.TheVariants.{Map, Opened, Closed, Provided, Accepted, Returned}
+use Rattle.report_lines.specs.declared.line.ReportLine.TheVariants.{Received, Pull, Plug}
 
 -- What the lines of one command say: one line alone, a line with the map that its further lines are, routes with their
 -- ranks, the hosts of the tables of an installation, or the senders and receivers of broken routes.

@@ -12,8 +12,8 @@ use Rattle.map_defs.specs.Routing.{LeadsTo}
 use Rattle.map_defs.specs.Ranks.{IsCertificate}
 use Rattle.port_ledgers.specs.Told.{Told, AreInOrder}
 use Rattle.port_ledgers.specs.Held.{port_told, AreTokensRight, AreAllPlaced}
-use Rattle.line_forms.specs.declared.line.MapSaid.TheVariants.{Complete}
-use Rattle.line_forms.specs.declared.line.ReportLine.TheVariants.{Map, Received, Tokens}
+use Rattle.report_lines.specs.declared.line.MapSaid.TheVariants.{Complete}
+use Rattle.report_lines.specs.declared.line.ReportLine.TheVariants.{Map, Received, Tokens}
 use Rattle.answer_defs.specs.Answer.{Answer, Alone, WithMap, WithRoutes, Answered, complete_map, fabric_after}
 use Rattle.answer_defs.specs.Answer.{told_in, told}
 

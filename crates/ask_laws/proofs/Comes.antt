@@ -33,8 +33,8 @@ use Rattle.link_defs.specs.Advance.{course, course_into}
 use Rattle.link_defs.specs.Lone.{dropped_place, ended_place, lone_place}
 use Rattle.link_defs.proofs.HopsLeft.{course_into-enters}
 use Rattle.link_defs.proofs.LonePackets.{lone-place}
-use Rattle.mapping_defs.specs.Mapping.{MappingBody, mapping_bytes, is_mapping}
-use Rattle.mapping_defs.proofs.Mappings.{mapping-read}
+use Rattle.mapper_bodies.specs.Mapping.{MappingBody, mapping_bytes, is_mapping}
+use Rattle.mapper_bodies.proofs.Mappings.{mapping-read}
 use Rattle.world_defs.specs.declared.effect.Effect.{Effect}
 use Rattle.world_defs.specs.declared.arrival.Arrival.TheVariants.{Dropped}
 use Rattle.world_defs.specs.Node.{NodeState, new_node}

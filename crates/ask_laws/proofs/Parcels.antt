@@ -20,7 +20,7 @@ use Rattle.packet_defs.specs.Packet.{packet_of, difference}
 use Rattle.packet_defs.proofs.Packets.{packet_of-difference}
 use Rattle.link_defs.specs.declared.moved.Moved.{Moved}
 use Rattle.link_defs.proofs.LonePackets.{no_channel-place}
-use Rattle.mapping_defs.specs.Mapping.{MappingBody, mapping_bytes, is_mapping}
+use Rattle.mapper_bodies.specs.Mapping.{MappingBody, mapping_bytes, is_mapping}
 use Rattle.world_defs.specs.declared.effect.Effect.{Effect}
 use Rattle.world_defs.specs.Node.{Outgoing, is_message, to_send, packet_for, after_sending}
 use Rattle.world_defs.specs.Hearing.{OfMapper, hear_body}

@@ -13,7 +13,7 @@ use Rattle.circ_defs.specs.Ways.{AreAmong, ArePaths, IsOneOf, IsTouched, IsWay, 
 use Rattle.circ_defs.specs.Cores.{IsCore, IsCoreCable, IsCutOff}
 use Rattle.circ_defs.specs.Circuit.{are_apart}
 use Rattle.circ_defs.proofs.Ways.{ArePassed, path-way, simple-way}
-use Rattle.growth_laws.proofs.Truly.{port-there}
+use Rattle.map_laws.proofs.Truly.{port-there}
 use Rattle.net_defs.proofs.Cabling.{host-port}
 use Rattle.journal_defs.specs.Part.Path.{here, over as by_cable}
 use Rattle.circ_defs.proofs.Cables.{joins-low, joins-far, far-joins, ends-one, SameCable, joins-back, same-cable}

@@ -15,7 +15,7 @@ use Rattle.net_defs.proofs.Cabling.{host-port}
 use Rattle.journal_defs.proofs.Reach.{edge-back, steps-join, steps-within, within-steps, among-parts, among-self, among-right}
 use Rattle.journal_defs.proofs.Simple.{Holds, short-steps}
 use Rattle.journal_defs.proofs.Distance.{vertex_decides, vertex-listed, port-vertex}
-use Rattle.growth_laws.proofs.Truly.{port-there}
+use Rattle.map_laws.proofs.Truly.{port-there}
 use Rattle.circ_defs.specs.Cores.{IsCore, IsCoreCable, IsCutOff}
 use Rattle.circ_defs.specs.Ways.{IsOneOf, IsPath, IsStep, IsTouched, IsWay, Joins, Step, cables_on}
 use Rattle.circ_defs.specs.Circuit.{are_apart}

@@ -6,7 +6,7 @@ use Rattle.net_defs.specs.declared.vertex.End.{End}
 use Rattle.net_defs.specs.Network.{Network, IsFabric, has_port}
 use Rattle.net_defs.specs.Route.{host_port}
 use Rattle.net_defs.proofs.Cabling.{host-port}
-use Rattle.growth_laws.proofs.Truly.{port-there}
+use Rattle.map_laws.proofs.Truly.{port-there}
 use Rattle.std.proofs.lemmas.List.{append_assoc}
 use Rattle.circ_defs.specs.Ways.{AreAmong, AreNone, ArePaths, IsNewWay, IsOneOf, IsPath, IsStep, IsTouched, IsWay, Joins, Step, cables_in, cables_on}
 use Rattle.circ_defs.specs.PathList.{CrossesOnce, Ear, IsEar, IsPathList, cables_of}

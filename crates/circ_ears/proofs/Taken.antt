@@ -18,7 +18,7 @@ use Rattle.circ_ears.proofs.Existing.{Made, NoneLeft, all-taken, first-made, lon
 use Rattle.circ_ears.proofs.Once.{core_path_lists_are_short}
 use Rattle.circ_ears.proofs.Onward.{next_path, path-core}
 use Rattle.circ_ears.proofs.Returns.{EarOf, HasOneMore, add-ear, own-old}
-use Rattle.circ_map_laws.proofs.Numbering.{circuit_map_is_core}
+use Rattle.circ_laws.proofs.Numbering.{circuit_map_is_core}
 use Rattle.circ_ears.specs.EarLists.{AreNumbersOfCore, EarNumbers, MapAtThisDepthIsCore, ReturnWalksAreShort, all_numbers, deepest, numbers_of}
 use Rattle.circ_ears.specs.Search.{HasNoPath}
 use Rattle.circ_ears.specs.Taking.{HasNoCableBelow, IsOwnStep, Taking, first_taking, taken}

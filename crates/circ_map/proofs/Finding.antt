@@ -8,7 +8,7 @@ use Rattle.net_defs.proofs.Turns.{same_turns-true, same_turns-refl, same_turns-f
 use Rattle.journal_defs.specs.declared.entry.Entry.{Entry}
 use Rattle.journal_defs.specs.Tree.{IsJournal, answered, is_asked, is_found, nodes, reached}
 use Rattle.journal_defs.specs.Tree.Node.{Reached}
-use Rattle.growth_laws.proofs.Asks.{walks}
+use Rattle.map_laws.proofs.Asks.{walks}
 use Rattle.circ_defs.specs.Asking.{found_of}
 
 -- an element of a list that got one more

@@ -8,15 +8,15 @@ use Rattle.map_defs.specs.NetMap.{NetMap, MapPort, IsCabled}
 use Rattle.map_defs.specs.Quotient.{IsQuotient}
 use Rattle.map_defs.specs.Core.{core_of}
 use Rattle.fabric_map.specs.Growing.{with_core}
-use Rattle.class_joins.specs.Table.{IsTrueOfOne}
+use Rattle.replicate_merge.specs.Table.{IsTrueOfOne}
 use Rattle.circ_defs.specs.Circuit.{IsCircuitJournal}
 use Rattle.circ_defs.specs.Asking.{found_of}
 use Rattle.circ_defs.specs.CircuitMap.{IsKeptCable, IsWithoutOutside}
-use Rattle.circ_class_laws.proofs.Growing.{grown_tree_is_whole, growing-circuit, growing-once}
-use Rattle.circ_class_laws.proofs.Telling.{circuit-true}
-use Rattle.circ_map_laws.proofs.Ends.{cabled-number, number-cabled}
-use Rattle.circ_map_laws.proofs.Found.{found_is_enough}
-use Rattle.circ_map_laws.proofs.Numbering.{circuit_map_is_core}
+use Rattle.circ_laws.proofs.Growing.{grown_tree_is_whole, growing-circuit, growing-once}
+use Rattle.circ_laws.proofs.Telling.{circuit-true}
+use Rattle.circ_laws.proofs.Ends.{cabled-number, number-cabled}
+use Rattle.circ_laws.proofs.Found.{found_is_enough}
+use Rattle.circ_laws.proofs.Numbering.{circuit_map_is_core}
 use Rattle.circ_map.specs.Growing.{IsPassed, IsWhole}
 use Rattle.circ_map.specs.Inside.{inside, marked_below}
 use Rattle.circ_map.specs.declared.mapping.CircEnd.{CircEnd}

@@ -13,8 +13,8 @@ use Rattle.journal_defs.specs.Walks.{walk_below, IsOnward}
 use Rattle.journal_defs.specs.Tree.{IsJournal, IsSwitchNode, answered, is_asked, is_found, nodes}
 use Rattle.journal_defs.specs.Growth.{crossed}
 use Rattle.journal_defs.proofs.Order.{below-irrefl, below-trans}
-use Rattle.growth_laws.proofs.Asks.{not_empty, push-parts}
-use Rattle.growth_laws.proofs.Keeping.{asked-kept, asked-last, asked-push, keeps-append}
+use Rattle.map_laws.proofs.Asks.{not_empty, push-parts}
+use Rattle.map_laws.proofs.Keeping.{asked-kept, asked-last, asked-push, keeps-append}
 use Rattle.mapper.specs.Turns.{turn_at}
 use Rattle.mapper.proofs.Orders.{below-empty, below-last, below-onward}
 use Rattle.mapper.proofs.Turning.{turn-onward, turn-place, turn-rises, turns-apart}
@@ -22,7 +22,7 @@ use Rattle.circ_defs.specs.Circuit.{circuit_answer}
 use Rattle.circ_defs.specs.Asking.{IsNextOfTree, IsOfTree, IsTreeGrowing, found_of}
 use Rattle.circ_defs.specs.Asking.IsOfTree.{first, onward}
 use Rattle.circ_defs.specs.Asking.IsTreeGrowing.{nothing, more}
-use Rattle.circ_class_laws.proofs.Growing.{growing-once}
+use Rattle.circ_laws.proofs.Growing.{growing-once}
 use Rattle.circ_map.specs.Growing.{IsAskedBefore, IsAsking, IsChild, IsEarlier, IsOpen, IsPassed, IsShut, IsWhole, front_of, goes_on, is_full, kept_after, told}
 use Rattle.circ_map.proofs.Finding.{IsOldOrLast, answered-found, found-at, found_of-push, get-old, get-push, nodes-length}
 use Rattle.circ_map.proofs.Finding.IsOldOrLast.{old, last}

@@ -14,7 +14,7 @@ use Rattle.map_defs.specs.NetMap.{NetMap, MapPort, IsCabled, AreInOrder, first_e
 use Rattle.map_defs.specs.Core.{core_of, is_outside}
 use Rattle.core_map.proofs.Sides.{long-numbers, map-at}
 use Rattle.circ_defs.specs.CircuitMap.{HasNumber, IsKeptCable, IsWithoutOutside}
-use Rattle.circ_map_laws.proofs.Ends.{CabledBy, cabled-number, number-cabled}
+use Rattle.circ_laws.proofs.Ends.{CabledBy, cabled-number, number-cabled}
 use Rattle.circ_map.specs.Inside.{IsRising, cables_in, inside, marked_below, number_in, renumbered}
 use Rattle.circ_map.proofs.Finding.{IsOldOrLast, get-old, get-push}
 use Rattle.circ_map.proofs.Finding.IsOldOrLast.{old, last}

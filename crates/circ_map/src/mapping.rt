@@ -4,7 +4,7 @@ ghost use Rattle.std.specs.Prelude.{◌≡◌, ◌<◌, ◌≤◌, true, false, 
 ghost use Rattle.journal_defs.specs.Tree.{IsJournal, is_asked};
 ghost use Rattle.probe.specs.Keeping.{with_entry};
 ghost use Rattle.map_defs.specs.Quotient.{IsQuotient};
-ghost use Rattle.class_joins.specs.Table.{IsTrueOfOne};
+ghost use Rattle.replicate_merge.specs.Table.{IsTrueOfOne};
 ghost use Rattle.circ_map.specs.declared.mapping.CircEnd.{CircEnd};
 ghost use Rattle.circ_map.specs.Mapping.{HasInside, IsCoreWhereDeep, IsMappedBy, IsTreeMapped};
 

@@ -24,7 +24,7 @@ use Rattle.world_defs.specs.World.{WorldState, host_count, node_at, counted, las
 use Rattle.world_defs.specs.Step.{fault_on, is_harm, planned_strikes, sent_out, cause_at_switch, cause_at_host, of_call}
 use Rattle.world_defs.proofs.Views.{LinksChange, HostChange, CallChange, ArrivalChange, Change, view}
 use Rattle.world_defs.proofs.Strikes.{fault_step, Strike, strike_view}
-use Rattle.act_defs.specs.Acts.{Act, Happens, Plans, Adopts, acted}
+use Rattle.world_defs.specs.Acts.{Act, Happens, Plans, Adopts, acted}
 use Rattle.counter_laws.specs.Counts.{effect_of, possible_on, strike_at, strike_by, strike_of, taken_at, taken_by_fault, taken_on, taken_by, taken_of, injections, copies, arrivals, drops, losses, resets}
 use Rattle.counter_laws.proofs.Present.{present, emptied-present, put-present, lose-present, repeat-present, hold-present, flip-present, replay-present, moved-present, pull-present, pull-nothing, plug-present}
 use Rattle.world_defs.specs.declared.effect.Said.TheVariants.{Done}

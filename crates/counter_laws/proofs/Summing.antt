@@ -9,7 +9,7 @@ use Rattle.world_defs.specs.declared.effect.Effect.{Effect}
 use Rattle.world_defs.specs.declared.fault.Fault.{Fault}
 use Rattle.world_defs.specs.World.{WorldState, new_world, last_count}
 use Rattle.world_defs.specs.Step.{is_harm}
-use Rattle.act_defs.specs.Acts.{Act, acted, acted_all}
+use Rattle.world_defs.specs.Acts.{Act, acted, acted_all}
 use Rattle.counter_laws.specs.Counts.{effect_of, effects_of, strike_of, strikes_of, taken_of, taken_in, is_injection, is_copy, is_arrival, is_drop, is_loss, is_reset, is_copying, is_losing, drops}
 use Rattle.counter_laws.specs.Conserved.{PacketsAreConserved, CountersAreTrue}
 use Rattle.counter_laws.proofs.Acting.{came, went, Tells, acted-tells}

@@ -6,7 +6,7 @@ use Rattle.world_defs.specs.declared.effect.Effect.{Effect}
 use Rattle.world_defs.specs.declared.fault.Fault.{Fault}
 use Rattle.world_defs.specs.World.{WorldState, new_world, last_count}
 use Rattle.world_defs.specs.Step.{is_harm}
-use Rattle.act_defs.specs.Acts.{Act, acted_all}
+use Rattle.world_defs.specs.Acts.{Act, acted_all}
 use Rattle.counter_laws.specs.Counts.{effects_of, strikes_of, taken_in, injections, copies, arrivals, drops}
 use Rattle.counter_laws.specs.Counts.{losses, resets}
 use Rattle.counter_laws.specs.Counts.{in_channels, in_limbo}

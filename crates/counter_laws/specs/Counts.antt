@@ -17,7 +17,7 @@ use Rattle.world_defs.specs.declared.fault.Fault.TheVariants.{Pull as PullFault}
 use Rattle.world_defs.specs.Node.{Outgoing, to_send}
 use Rattle.world_defs.specs.World.{WorldState, node_at}
 use Rattle.world_defs.specs.Step.{fault_on, sent_out, step}
-use Rattle.act_defs.specs.Acts.{Act, Happens, Plans, Adopts, acted}
+use Rattle.world_defs.specs.Acts.{Act, Happens, Plans, Adopts, acted}
 
 -- the effect of an act that is an event
 abbrev pub effect_of : WorldState → Act → List Effect

@@ -7,7 +7,7 @@ use Rattle.world_defs.specs.declared.fault.Fault.{Fault}
 use Rattle.world_defs.specs.declared.fault.Fault.TheVariants.{Lose as LoseFault, Repeat as RepeatFault}
 use Rattle.world_defs.specs.declared.fault.Fault.TheVariants.{Flip as FlipFault, Pull as PullFault}
 use Rattle.world_defs.specs.World.{WorldState, new_world}
-use Rattle.act_defs.specs.Acts.{Act, Happens, Plans, acted_all}
+use Rattle.world_defs.specs.Acts.{Act, Happens, Plans, acted_all}
 use Rattle.counter_laws.specs.Counts.{effects_of, strikes_of, taken_in, injections, copies, arrivals, drops}
 use Rattle.counter_laws.specs.Counts.{losses, resets}
 use Rattle.counter_laws.specs.Counts.{in_channels, in_limbo}

@@ -26,7 +26,7 @@ use Rattle.world_laws.proofs.Along.{settle-along}
 use Rattle.world_laws.proofs.Reached.{settles-of}
 use Rattle.world_laws.proofs.Rounds.{Going}
 use Rattle.world_defs.specs.Logs.{settle}
-use Rattle.act_defs.specs.Acts.{IsReached}
+use Rattle.world_defs.specs.Acts.{IsReached}
 use Rattle.message_laws.specs.Filling.{provided_in, IsTied, IsFillingWith}
 use Rattle.message_laws.specs.Untouched.{IsUntouched}
 use Rattle.message_laws.proofs.Frames.{at-place}

@@ -34,7 +34,7 @@ use Rattle.message_laws.proofs.Heard.{IsHeard, quietly, of_frame, of_ack}
 use Rattle.message_laws.proofs.Buffers.{least-size, HoldsFront, taker-holds}
 use Rattle.delivery_laws.specs.Delivery.{is_wanted, is_of}
 use Rattle.message_laws.proofs.Arrivals.{HasUntouched, found-all, whole-took, part-took}
-use Rattle.seen_laws.proofs.Moves.{open-there}
+use Rattle.client_laws.proofs.Moves.{open-there}
 use Rattle.delivery_laws.proofs.Counts.{one_if, count_of, count-cons}
 
 -- how many tokens of a size and priority a port of a host has

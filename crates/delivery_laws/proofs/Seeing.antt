@@ -3,9 +3,9 @@ use Rattle.std.proofs.Common.{map, sym, ap, ◌∙◌}
 use Rattle.std.specs.List.{filter}
 use Rattle.cable_history.specs.History.{fabric_at}
 use Rattle.world_defs.specs.Logs.{settle}
-use Rattle.seen_laws.specs.Handed.{is_to, as_handed}
-use Rattle.seen_laws.proofs.Polled.{polled-got}
-use Rattle.seen_laws.proofs.Accepted.{accepted-sent}
+use Rattle.client_laws.specs.Handed.{is_to, as_handed}
+use Rattle.client_laws.proofs.Polled.{polled-got}
+use Rattle.client_laws.proofs.Accepted.{accepted-sent}
 use Rattle.delivery_laws.specs.Delivery.{SettledIsSeen}
 use Rattle.delivery_laws.proofs.Delivered.{settle-delivers}
 

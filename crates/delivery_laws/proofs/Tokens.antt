@@ -20,9 +20,9 @@ use Rattle.world_defs.specs.Step.{step, gives_up_epoch}
 use Rattle.world_defs.specs.Traffic.{sent_on, got_on}
 use Rattle.world_defs.proofs.Views.{HostChange, CallChange}
 use Rattle.world_defs.proofs.Lanes.{facing-taking}
-use Rattle.act_defs.specs.Acts.{Act, Happens, IsReached}
-use Rattle.act_defs.proofs.Hosts.{NodeChange, nodes_view, each_node}
-use Rattle.act_defs.proofs.Reaching.{reached-next}
+use Rattle.world_defs.specs.Acts.{Act, Happens, IsReached}
+use Rattle.world_defs.proofs.Hosts.{NodeChange, nodes_view, each_node}
+use Rattle.world_defs.proofs.Reaching.{reached-next}
 use Rattle.table_laws.proofs.Keeping.{holds-read}
 use Rattle.world_laws.specs.Reached.{IsOfSettle}
 use Rattle.world_laws.proofs.Along.{Along}
@@ -38,7 +38,7 @@ use Rattle.message_laws.proofs.Known.{reached-count, reached-known}
 use Rattle.settle_laws.proofs.ActiveTables.{IsNoRevoke}
 use Rattle.settle_laws.proofs.Routes.{route-stays}
 use Rattle.delivery_laws.specs.Delivery.{is_wanted, wanted_from, wanted_at, provided_at}
-use Rattle.seen_laws.proofs.Accepted.{IsNoSend, none-accepted, calm-grows}
+use Rattle.client_laws.proofs.Accepted.{IsNoSend, none-accepted, calm-grows}
 use Rattle.delivery_laws.proofs.Counts.{total, total-less, total-strict, count_of, drop-fewer, drop-strict}
 use Rattle.delivery_laws.proofs.Frees.{FreesAt, Frees, frees-same, IsNextOf, next-of, heard-frees, sending-frees}
 use Rattle.world_defs.specs.Table.{table_route}

@@ -15,9 +15,9 @@ use Rattle.world_defs.specs.Settle.{unacknowledged_in}
 use Rattle.world_defs.specs.Logs.{settle}
 use Rattle.message_laws.specs.Filling.{provided_in}
 use Rattle.message_laws.specs.Got.{IsAllGot}
-use Rattle.act_defs.specs.Acts.{IsReached}
+use Rattle.world_defs.specs.Acts.{IsReached}
 use Rattle.settle_laws.specs.Premises.{CanSettle}
-use Rattle.seen_laws.specs.Handed.{handed_in, waiting_in, is_on, is_to, as_handed, accepted_in}
+use Rattle.client_laws.specs.Handed.{handed_in, waiting_in, is_on, is_to, as_handed, accepted_in}
 
 -- the messages that were sent on a connection and aren't got
 abbrev pub missing_on : WorldState → ConnectionKey → List Message

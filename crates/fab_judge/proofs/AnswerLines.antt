@@ -9,9 +9,9 @@ use Rattle.fab_text.specs.Fault.{FirstFault, and_then}
 use Rattle.fab_text.specs.declared.fault.TextFault.{TextFault}
 use Rattle.fab_text.specs.declared.fault.TextFault.TheVariants.{At as FaultAt, NoMemory as OutOfMemory}
 use Rattle.map_canon.specs.Reading.{MapPart, PartGives}
-use Rattle.line_forms.specs.declared.line.MapSaid.TheVariants.{Complete, Doubtful, Shallow, Overgrown}
-use Rattle.line_forms.specs.declared.line.ReportLine.{ReportLine}
-use Rattle.line_forms.specs.declared.line.ReportLine.TheVariants.{Map as MapLine}
+use Rattle.report_lines.specs.declared.line.MapSaid.TheVariants.{Complete, Doubtful, Shallow, Overgrown}
+use Rattle.report_lines.specs.declared.line.ReportLine.{ReportLine}
+use Rattle.report_lines.specs.declared.line.ReportLine.TheVariants.{Map as MapLine}
 use Rattle.report_lines.specs.Lines.{line_said}
 use Rattle.run_defs.specs.declared.command.Command.{Command}
 use Rattle.answer_defs.specs.Answer.{WithMap, WithRoutes, WithTables, WithBroken}

@@ -12,17 +12,17 @@ use Rattle.fab_text.specs.Line.{TextLine}
 use Rattle.port_ledgers.specs.Told.{AreInOrder, sent_message}
 use Rattle.port_ledgers.specs.Waiting.{AreWaiting, waiting}
 use Rattle.port_ledgers.specs.Held.{AreHeld}
-use Rattle.line_forms.specs.declared.line.MapSaid.TheVariants.{Complete, Doubtful, Shallow, Overgrown}
-use Rattle.line_forms.specs.declared.line.ReportLine.{ReportLine}
-use Rattle.line_forms.specs.declared.line.ReportLine.TheVariants.{Map as MapLine}
+use Rattle.report_lines.specs.declared.line.MapSaid.TheVariants.{Complete, Doubtful, Shallow, Overgrown}
+use Rattle.report_lines.specs.declared.line.ReportLine.{ReportLine}
+use Rattle.report_lines.specs.declared.line.ReportLine.TheVariants.{Map as MapLine}
 use Rattle.run_defs.specs.declared.command.Command.{Command}
 use Rattle.answer_defs.specs.declared.why.Why.{Why}
 use Rattle.answer_defs.specs.declared.why.Why.TheVariants.{Form, Map, Route as BadRoute, Rank, Message, Token}
 use Rattle.answer_defs.specs.Answer.{Answer, Alone, WithMap, WithRoutes, WithTables, WithBroken, Answered, answered, told, told_in, complete_map, shown_map, routed_hosts, hosts_in, fabric_by}
 use Rattle.answer_defs.specs.Right.{MapIsTrue, HoldOn, IsRight}
 use Rattle.answer_defs.specs.Failing.{Fails, map_fails, routes_fail, message_fails, token_fails, RoutesFail, no_map}
-use Rattle.answer_checks.specs.Checks.{FindsFault}
-use Rattle.answer_checks.specs.Ledgers.{LedgersState, AreLedgersOf, JudgesLine}
+use Rattle.fab_judge.specs.Checks.{FindsFault}
+use Rattle.fab_judge.specs.Ledgers.{LedgersState, AreLedgersOf, JudgesLine}
 use Rattle.judge_defs.specs.Form.{known_by, answer_from}
 use Rattle.judge_defs.specs.Verdict.{AreJudgedYes, ended, goes_on, FailsFirst, more, unread, here, later}
 use Rattle.fab_judge.specs.declared.stop.Stop.{Stop}

@@ -11,3 +11,8 @@ pub mod Steps
 pub mod TableLines
 pub mod Texts
 pub mod Verdicts
+pub mod Telling
+pub mod Pairs
+pub mod Astray
+pub mod Below
+pub mod Errors

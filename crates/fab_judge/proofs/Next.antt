@@ -3,7 +3,7 @@ use Rattle.std.proofs.Common.{◌≡◌, ℕ, List, [], ◌∷◌, Option, Some,
 use Rattle.std.specs.Prelude.{option_and_then}
 use Rattle.net_defs.specs.Network.{Network}
 use Rattle.fab_text.specs.Line.{TextLine, words_of}
-use Rattle.line_forms.specs.declared.line.ReportLine.{ReportLine}
+use Rattle.report_lines.specs.declared.line.ReportLine.{ReportLine}
 use Rattle.report_lines.specs.Lines.{line_said}
 use Rattle.judge_defs.specs.Form.{where_due, next_due}
 use Rattle.fab_judge.specs.Reading.{Gives, numbered, next_said, found}

@@ -3,7 +3,7 @@ use Rattle.std.proofs.Common.{◌≡◌, ℕ, List, [], ◌∷◌, ◌++◌, Boo
 use Rattle.net_defs.specs.Network.{Network}
 use Rattle.fab_text.specs.Line.{TextLine, words_of}
 use Rattle.fab_text.specs.Fault.{and_then}
-use Rattle.line_forms.specs.declared.line.ReportLine.{ReportLine}
+use Rattle.report_lines.specs.declared.line.ReportLine.{ReportLine}
 use Rattle.report_lines.specs.Lines.{line_said}
 use Rattle.judge_defs.specs.Form.{Reads, broken_lines, pair_due, pairs_from, is_end_of_broken}
 use Rattle.fab_judge.specs.declared.stop.Unread.{Unread}

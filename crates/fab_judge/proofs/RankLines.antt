@@ -6,7 +6,7 @@ use Rattle.map_defs.specs.declared.rank.RankEntry.{RankEntry}
 use Rattle.map_defs.specs.NetMap.{NetMap}
 use Rattle.fab_text.specs.Line.{TextLine, words_of}
 use Rattle.fab_text.specs.Fault.{and_then}
-use Rattle.line_forms.specs.declared.line.ReportLine.{ReportLine}
+use Rattle.report_lines.specs.declared.line.ReportLine.{ReportLine}
 use Rattle.report_lines.specs.Lines.{line_said}
 use Rattle.judge_defs.specs.Form.{Reads, rank_lines, rank_due, ranks_from, is_end_of_routes}
 use Rattle.fab_judge.specs.declared.stop.Unread.{Unread}

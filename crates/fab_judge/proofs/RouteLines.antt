@@ -5,8 +5,8 @@ use Rattle.net_defs.specs.declared.route.Route.{Route}
 use Rattle.net_defs.specs.Network.{Network}
 use Rattle.port_graph.specs.Routes.{is_above}
 use Rattle.fab_text.specs.Line.{TextLine}
-use Rattle.line_forms.specs.declared.line.ReportLine.{ReportLine}
-use Rattle.line_forms.specs.declared.line.ReportLine.TheVariants.{Route as RouteLine}
+use Rattle.report_lines.specs.declared.line.ReportLine.{ReportLine}
+use Rattle.report_lines.specs.declared.line.ReportLine.TheVariants.{Route as RouteLine}
 use Rattle.judge_defs.specs.Form.{Reads, next_due, route_due, route_lines}
 use Rattle.fab_judge.specs.declared.stop.Unread.{Unread}
 use Rattle.fab_judge.specs.declared.stop.Unread.TheVariants.{At, NoMemory}

@@ -6,7 +6,7 @@ use Rattle.fab_text.specs.Line.{TextLine}
 use Rattle.judge_defs.specs.Form.{Reads, next_due, table_due, table_lines, rising_tables, rising_table_due, tables_of}
 use Rattle.fab_judge.specs.declared.stop.Unread.{Unread}
 use Rattle.fab_judge.specs.declared.stop.Unread.TheVariants.{At, NoMemory}
-use Rattle.line_forms.specs.declared.line.ReportLine.{ReportLine}
+use Rattle.report_lines.specs.declared.line.ReportLine.{ReportLine}
 use Rattle.fab_judge.specs.Reading.{Gives, Passes, next_said}
 use Rattle.fab_judge.proofs.Next.{due-fault}
 use Rattle.fab_judge.proofs.Lists.{last_of, last_of-more, at-drop, past-drop}

@@ -9,13 +9,13 @@ use Rattle.map_defs.specs.NetMap.{NetMap}
 use Rattle.fab_text.specs.Line.{TextLine, words_of}
 use Rattle.report_lines.specs.Lines.{line_said}
 use Rattle.map_canon.specs.Reading.{map_part}
-use Rattle.line_forms.specs.declared.line.MapSaid.{MapSaid}
-use Rattle.line_forms.specs.declared.line.MapSaid.TheVariants.{Overgrown}
-use Rattle.line_forms.specs.declared.line.ReportLine.{ReportLine}
-use Rattle.line_forms.specs.declared.line.ReportLine.TheVariants.{Map as MapLine, Circuit as CircuitLine}
-use Rattle.line_forms.specs.declared.line.ReportLine.TheVariants.{Routes as RoutesLine}
-use Rattle.line_forms.specs.declared.line.ReportLine.TheVariants.{Installed, Route as RouteLine}
-use Rattle.line_forms.specs.declared.line.ReportLine.TheVariants.{Broken as BrokenLine, EndBroken, NoBroken}
+use Rattle.report_lines.specs.declared.line.MapSaid.{MapSaid}
+use Rattle.report_lines.specs.declared.line.MapSaid.TheVariants.{Overgrown}
+use Rattle.report_lines.specs.declared.line.ReportLine.{ReportLine}
+use Rattle.report_lines.specs.declared.line.ReportLine.TheVariants.{Map as MapLine, Circuit as CircuitLine}
+use Rattle.report_lines.specs.declared.line.ReportLine.TheVariants.{Routes as RoutesLine}
+use Rattle.report_lines.specs.declared.line.ReportLine.TheVariants.{Installed, Route as RouteLine}
+use Rattle.report_lines.specs.declared.line.ReportLine.TheVariants.{Broken as BrokenLine, EndBroken, NoBroken}
 use Rattle.answer_defs.specs.Answer.{Answer, Alone, WithBroken}
 use Rattle.judge_defs.specs.Form.{Reads, Known, map_block, routes_block, tables_block, tables_of, rank_due}
 use Rattle.judge_defs.specs.Form.{is_end_of_routes}

@@ -5,3 +5,5 @@ pub mod Past
 pub mod Reading
 pub mod Shown
 pub mod Verdicts
+pub mod Ledgers
+pub mod Checks

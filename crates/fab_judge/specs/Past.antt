@@ -2,13 +2,13 @@
 use Rattle.std.specs.Prelude.{◌≡◌, ℕ, Bool, true, false, List, Option, Some, None, if◌then◌else◌}
 use Rattle.net_defs.specs.Network.{Network}
 use Rattle.map_defs.specs.NetMap.{NetMap}
-use Rattle.line_forms.specs.declared.line.MapSaid.{MapSaid}
-use Rattle.line_forms.specs.declared.line.MapSaid.TheVariants.{Complete}
-use Rattle.line_forms.specs.declared.line.ReportLine.{ReportLine}
-use Rattle.line_forms.specs.declared.line.ReportLine.TheVariants.{Map as MapLine}
+use Rattle.report_lines.specs.declared.line.MapSaid.{MapSaid}
+use Rattle.report_lines.specs.declared.line.MapSaid.TheVariants.{Complete}
+use Rattle.report_lines.specs.declared.line.ReportLine.{ReportLine}
+use Rattle.report_lines.specs.declared.line.ReportLine.TheVariants.{Map as MapLine}
 use Rattle.answer_defs.specs.Answer.{Alone, Answered, complete_map, shown_map, routed_hosts, are_adopted}
 use Rattle.answer_defs.specs.Answer.{fabric_by, fabric_after}
-use Rattle.answer_checks.specs.Ledgers.{AreLedgersOf}
+use Rattle.fab_judge.specs.Ledgers.{AreLedgersOf}
 use Rattle.judge_defs.specs.Form.{Known}
 use Rattle.fab_judge.specs.Shown.{Shown, map_in, complete_in}
 use Rattle.fab_judge.specs.declared.past.Past.{Past as PastState}

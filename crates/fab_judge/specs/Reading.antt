@@ -8,7 +8,7 @@ use Rattle.fab_text.specs.declared.fault.TextFault.TheVariants.{At as FaultAt, N
 use Rattle.fab_text.specs.Fault.{FirstFault}
 use Rattle.map_defs.specs.NetMap.{NetMap}
 use Rattle.map_canon.specs.Reading.{MapPart}
-use Rattle.line_forms.specs.declared.line.ReportLine.{ReportLine}
+use Rattle.report_lines.specs.declared.line.ReportLine.{ReportLine}
 use Rattle.report_lines.specs.Lines.{line_said}
 use Rattle.judge_defs.specs.Form.{Reads}
 use Rattle.fab_judge.specs.declared.stop.Unread.{Unread}

@@ -1,7 +1,7 @@
 //! The answer of a command, and how it is read.
 
 ghost use Rattle.std.specs.Prelude.{◌≡◌, ◌+◌, IfOk};
-ghost use Rattle.line_forms.specs.declared.line.ReportLine.TheVariants.{NoBroken};
+ghost use Rattle.report_lines.specs.declared.line.ReportLine.TheVariants.{NoBroken};
 ghost use Rattle.judge_defs.specs.Form.{answer_from, map_block, routes_block, tables_block, tables_of, pair_in};
 ghost use Rattle.judge_defs.specs.Form.{broken_block, refused_block};
 ghost use Rattle.map_canon.specs.Reading.{map_part};
@@ -22,9 +22,9 @@ use crate::stop::Unread;
 use crate::tables::read_tables;
 use fabric_map::FabricMap;
 use judge_defs::{may_answer, refused_pair};
-use line_forms::ReportLine;
 use port_graph::{Fabric, RouteSet};
 use rank_cert::Ranks;
+use report_lines::ReportLine;
 use run_defs::Command;
 use std::alloc::Global;
 

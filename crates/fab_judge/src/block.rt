@@ -3,7 +3,7 @@
 ghost use Rattle.std.specs.Prelude.{◌≡◌};
 ghost use Rattle.fab_judge.specs.Blocks.{block_in, block_of_map};
 
-use line_forms::{MapSaid, ReportLine};
+use report_lines::{MapSaid, ReportLine};
 
 /// The lines that follow a first line.
 #[derive(Clone, Copy)]

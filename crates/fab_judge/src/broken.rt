@@ -9,8 +9,8 @@ ghost use Rattle.fab_judge.specs.Blocks.{next_pair, pair_of_line};
 use crate::reader::Reader;
 use crate::stop::Unread;
 use judge_defs::{is_end_of_broken, pair_due};
-use line_forms::ReportLine;
 use port_graph::Fabric;
+use report_lines::ReportLine;
 
 /// Reads broken routes after this one, which rise, up to `endbroken`.
 pub(crate) fn read_broken(f: &Fabric, reader: &mut Reader, first: (u16, u16)) -> Result<(), Unread>

@@ -13,13 +13,13 @@ ghost use Rattle.fab_judge.specs.Answers.{IsAs, more_lines};
 use crate::answer::Answer;
 use crate::past::Past;
 use crate::shown::{ShownMap, complete_map};
-use answer_checks::{Hosts, hosts_in, judge_line, routes_fault};
+use crate::{Hosts, hosts_in, judge_line, routes_fault};
 use fabric_map::FabricMap;
 use judge_defs::Why;
-use line_forms::{MapSaid, ReportLine};
 use map_sameness::is_same_as_part;
 use port_graph::{Fabric, RouteSet};
 use rank_cert::Ranks;
+use report_lines::{MapSaid, ReportLine};
 use run_defs::Command;
 use std::alloc::{AllocError, Global};
 

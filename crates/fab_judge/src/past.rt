@@ -5,10 +5,10 @@ ghost use Rattle.answer_defs.specs.Answer.{Alone, fabric_by, plugged};
 ghost use Rattle.fab_judge.specs.Past.{IsPastOf, after_line, after_map, is_map, is_complete};
 
 use crate::shown::ShownMap;
-use answer_checks::{Hosts, Ledgers};
+use crate::{Hosts, Ledgers};
 use fabric_map::FabricMap;
-use line_forms::{MapSaid, ReportLine};
 use port_graph::{End, Fabric, GraphFault};
+use report_lines::{MapSaid, ReportLine};
 use std::alloc::{AllocError, Global};
 
 /// What the answers so far say.

@@ -12,9 +12,9 @@ use crate::reader::Reader;
 use crate::shown::ShownMap;
 use crate::stop::Unread;
 use judge_defs::is_end_of_routes;
-use line_forms::ReportLine;
 use map_defs::{MapVertex, RankEntry};
 use port_graph::Fabric;
+use report_lines::ReportLine;
 use std::alloc::Global;
 
 /// Reads ranks up to `endroutes`, which rise by their channels.

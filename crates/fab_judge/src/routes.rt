@@ -7,8 +7,8 @@ ghost use Rattle.fab_judge.specs.Blocks.{route_in, GivesRoute, Adds};
 
 use crate::reader::Reader;
 use crate::stop::Unread;
-use line_forms::ReportLine;
 use port_graph::{Fabric, Route, RoutePush, RouteSet};
+use report_lines::ReportLine;
 use std::alloc::Global;
 
 /// Reads so many routes, which rise.

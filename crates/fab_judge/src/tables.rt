@@ -4,9 +4,9 @@ ghost use Rattle.std.specs.Prelude.{◌≡◌, IfOk, Some, None};
 ghost use Rattle.judge_defs.specs.Form.{next_due, table_due, rising_table_due, table_lines, rising_tables, tables_of};
 ghost use Rattle.fab_judge.specs.Reading.{Gives, Passes, HasRead, found};
 
+use crate::Hosts;
 use crate::reader::Reader;
 use crate::stop::Unread;
-use answer_checks::Hosts;
 use judge_defs::{rising_table_due, table_due};
 use port_graph::Fabric;
 

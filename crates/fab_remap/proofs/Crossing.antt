@@ -13,7 +13,7 @@ use Rattle.cable_history.specs.Crossed.{channels_at, is_cut}
 use Rattle.world_defs.specs.Table.{Adoption, at_in, route_of}
 use Rattle.world_defs.specs.World.{WorldState}
 use Rattle.world_defs.specs.Traffic.{routes_in, adopted_routes, is_cut_walk, is_broken}
-use Rattle.act_defs.specs.Acts.{IsReached}
+use Rattle.world_defs.specs.Acts.{IsReached}
 use Rattle.table_laws.specs.Acts.{HasHistory}
 use Rattle.table_laws.proofs.Dependencies.{cables-are_history, adopted-adoptable}
 use Rattle.fab_remap.specs.Remap.{hosts_of, broken_pairs, is_stuck, stuck_pairs}

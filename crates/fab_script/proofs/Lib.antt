@@ -1,3 +1,7 @@
 pub mod Ends
 pub mod Parts
 pub mod Ranged
+mod Counts
+mod Digits
+mod Keywords
+pub mod Turns

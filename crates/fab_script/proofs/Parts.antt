@@ -9,7 +9,7 @@ use Rattle.fab_text.specs.Line.{TextLine, words_of, lines_left, line_count}
 use Rattle.fab_text.specs.Fault.{FirstFault, TextGives, at_line, and_then}
 use Rattle.run_defs.specs.declared.command.Command.{Command}
 use Rattle.run_defs.specs.Script.{command_of, ended, is_end, script_from, script_reading}
-use Rattle.script_lines.specs.Lists.{behind}
+use Rattle.fab_script.specs.LineLists.{behind}
 use Rattle.fab_script.specs.Lists.{where_sound, sound_from, sound_lines}
 use Rattle.fab_script.specs.Parts.{ScriptPart, allowed_command, before_part, front_part, front_sound, part_after, FrontGives}
 

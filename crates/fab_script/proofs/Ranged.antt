@@ -28,8 +28,8 @@ use Rattle.run_defs.specs.declared.command.StepLine.{StepLine}
 use Rattle.run_defs.specs.declared.command.StepLine.TheVariants.{Inject, GiveUp, Advance, Lose, Repeat, Hold, Reset, Flip, Expire, Replay}
 use Rattle.run_defs.specs.Script.{Form, OfName, OfNumber, Value, Name, Number, value_of, values_of, said_by, from_least, LineKind, command_by, address_of, at_host, at_hosts, end_at, at_end, two_ends_at, of_port, of_switch_port, of_count, of_prio, of_tries, of_ahead, of_bit, of_pattern, map_meant, circuit_meant, alone_meant, install_meant, open_meant, at_port_meant, provide_meant, send_meant, plan_meant, plan_flip_meant, plan_pull_meant, pull_meant, plug_meant, host_step_meant, end_step_meant, flip_step_meant, expire_meant, replay_meant, of_end, duo_meant, duo_send_meant, duo_provide_meant, duo_kinds, line_kinds, plan_kinds, step_kinds, by_second, turns_of, walk_said, command_as, command_of, is_end, ended, script_from, script_reading}
 use Rattle.fab_script.specs.Ranges.{IsHost, IsEnd, IsWithin, IsPlanned, IsStepOf, IsDuoOf, IsCommandOf}
-use Rattle.script_lines.specs.Values.{cable_kinds}
-use Rattle.script_lines.proofs.Turns.{within, turns-walk}
+use Rattle.fab_script.specs.Values.{cable_kinds}
+use Rattle.fab_script.proofs.Turns.{within, turns-walk}
 
 -- a value of a form, and values of forms
 abbrev IsIn : Form → Value → Type 0

@@ -5,16 +5,16 @@ ghost use Rattle.std.specs.List.{AllByRecursion};
 ghost use Rattle.fab_text.specs.Line.{is_blank, line_count, lines_left, words_of};
 ghost use Rattle.fab_text.specs.Fault.{LineGives, TextGives};
 ghost use Rattle.run_defs.specs.Script.{ended, is_end, script_reading};
-ghost use Rattle.script_lines.specs.Lists.{behind};
+ghost use Rattle.fab_script.specs.LineLists.{behind};
 ghost use Rattle.fab_script.specs.Lists.{sound_lines};
 ghost use Rattle.fab_script.specs.Parts.{begins_with, is_unjudged, allowed_command, front_part, front_sound};
 ghost use Rattle.fab_script.specs.Parts.{script_part, PartGives, FrontGives};
 ghost use Rattle.fab_script.specs.Ranges.{IsCommandOf};
 
+use crate::read_command;
 use fab_text::{FaultKind, LineFault, Lines, TextFault, Words, is_keyword, line_count, words};
 use port_graph::Fabric;
 use run_defs::Command;
-use script_lines::read_command;
 use std::alloc::Global;
 use std::marker::Model;
 

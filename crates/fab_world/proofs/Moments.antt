@@ -18,8 +18,8 @@ use Rattle.world_defs.specs.Table.{Adoption, whole_table}
 use Rattle.world_defs.specs.World.{WorldState, fabric_of, host_count, node_at, new_world, planned, keeps_epoch, adoption_of, adopted_by}
 use Rattle.world_defs.specs.Step.{step, after_all}
 use Rattle.world_laws.proofs.Shapes.{step-kept, new-world, new-senders, planned-world, planned-senders, adopted-world, adopted-senders}
-use Rattle.act_defs.specs.Acts.{Happens}
-use Rattle.act_defs.proofs.Kept.{CablesKept, kept-same, kept-both, acted-kept}
+use Rattle.world_defs.specs.Acts.{Happens}
+use Rattle.world_defs.proofs.ActsKept.{CablesKept, kept-same, kept-both, acted-kept}
 use Rattle.world_defs.proofs.Kept.{step-adopted, with-all, step-plan}
 use Rattle.world_defs.specs.EightBits.{IsByteFault}
 use Rattle.port_graph.specs.Routes.{AreShort}

@@ -12,9 +12,9 @@ use Rattle.world_defs.specs.declared.fault.Fault.{Fault}
 use Rattle.world_defs.specs.World.{WorldState, fabric_of, with_links, planned, standing_of, may_adopt, adopted_by}
 use Rattle.world_defs.specs.Step.{step}
 use Rattle.world_defs.specs.EightBits.{IsByteFault, IsByteEvent}
-use Rattle.act_defs.specs.Acts.{Act, Happens, Plans, Adopts, acted, MayAct, IsReached}
-use Rattle.act_defs.proofs.Reaching.{reached-next}
-use Rattle.act_defs.proofs.Kept.{acted-kept}
+use Rattle.world_defs.specs.Acts.{Act, Happens, Plans, Adopts, acted, MayAct, IsReached}
+use Rattle.world_defs.proofs.Reaching.{reached-next}
+use Rattle.world_defs.proofs.ActsKept.{acted-kept}
 use Rattle.link_defs.specs.Links.{LinkState}
 use Rattle.link_model.specs.Hop.{IsRun}
 use Rattle.link_model.specs.declared.hop.Hop.{Hop}

@@ -6,14 +6,14 @@ ghost use Rattle.cable_history.specs.History.{fabric_at};
 ghost use Rattle.cable_history.specs.Later.{OnlyPulled, IsLater};
 ghost use Rattle.link_defs.specs.declared.moved.Moved.TheVariants.{To};
 ghost use Rattle.link_defs.specs.Advance.{advance};
-ghost use Rattle.channel_slots.specs.Full.{IsLone};
+ghost use Rattle.link_model.specs.FullSlots.{IsLone};
 ghost use Rattle.port_graph.specs.Routes.{HandsBack};
 ghost use Rattle.world_defs.specs.Traffic.{IsHonestTraffic};
 ghost use Rattle.world_defs.specs.World.{fabric_of, host_count, new_world, planned, adopted_by};
 ghost use Rattle.world_defs.specs.World.{epoch_of, standing_of};
 ghost use Rattle.world_defs.specs.declared.event.Event.TheVariants.{Ask, Inject, Advance};
 ghost use Rattle.world_defs.specs.Step.{step};
-ghost use Rattle.act_defs.specs.Acts.{IsReached};
+ghost use Rattle.world_defs.specs.Acts.{IsReached};
 ghost use Rattle.message_laws.specs.Untouched.{HandsBackBy};
 ghost use Rattle.message_laws.specs.Windows.{HasWindows};
 ghost use Rattle.message_laws.specs.Filling.{HasTiedParts};
@@ -51,7 +51,7 @@ impl Model for World {
     ghost use Rattle.std.specs.Prelude.{◌≡◌};
     ghost use Rattle.cable_history.specs.History.{fabric_at};
     ghost use Rattle.world_defs.specs.World.{WorldState, fabric_of};
-    ghost use Rattle.act_defs.specs.Acts.{IsReached};
+    ghost use Rattle.world_defs.specs.Acts.{IsReached};
     ghost use Rattle.fab_world.specs.Held.{IsMoment};
 
     ghost Value = { WorldState };

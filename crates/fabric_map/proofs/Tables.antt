@@ -14,7 +14,7 @@ use Rattle.map_defs.specs.declared.vertex.MapCable.{MapCable}
 use Rattle.map_defs.specs.NetMap.{MapPort, first_end, second_end, same_port, far_port, map_ends}
 use Rattle.map_defs.proofs.Ports.{same_port-true, same_port-refl}
 use Rattle.map_defs.proofs.Leading.{far-end}
-use Rattle.port_table.specs.declared.end.NodePort.{NodePort}
+use Rattle.port_align.specs.declared.end.NodePort.{NodePort}
 use Rattle.fabric_map.specs.Table.{place_of_port, far_pair, far_end, entry, IsTableOf}
 use Rattle.fabric_map.specs.Growing.{are_near}
 use Rattle.fabric_map.proofs.Ends.{far_port-push, map_ends-push, end-far, near-from, far-apart}

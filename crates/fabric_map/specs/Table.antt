@@ -5,7 +5,7 @@ use Rattle.std.specs.List.{AllByRecursion}
 use Rattle.net_defs.specs.Turn.{IsTurn}
 use Rattle.map_defs.specs.declared.vertex.MapCable.{MapCable}
 use Rattle.map_defs.specs.NetMap.{MapPort, far_port, map_ends}
-use Rattle.port_table.specs.declared.end.NodePort.{NodePort}
+use Rattle.port_align.specs.declared.end.NodePort.{NodePort}
 
 -- the place of a port
 abbrev pub place_of_port : MapPort → ℕ

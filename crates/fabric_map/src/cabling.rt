@@ -13,10 +13,10 @@ ghost use Rattle.std.specs.List.{AllByRecursion};
 ghost use Rattle.map_defs.specs.NetMap.{MapPort, first_end, second_end, far_port, map_ends};
 ghost use Rattle.fabric_map.specs.Growing.{are_near};
 ghost use Rattle.fabric_map.specs.Table.{end_of, far_pair, pair_of_end, place_of_port, port_at};
-ghost use Rattle.port_table.specs.Ends.{IsOutside};
+ghost use Rattle.port_align.specs.Ends.{IsOutside};
 
 use map_defs::MapCable;
-use port_table::{NodePort, PortTable};
+use port_align::{NodePort, PortTable};
 use std::alloc::{AllocError, Global};
 use std::marker::Model;
 

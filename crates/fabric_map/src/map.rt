@@ -12,7 +12,7 @@ ghost use Rattle.fabric_map.specs.Growing.{with_core};
 ghost use Rattle.fabric_map.specs.Growing.{has_host, host_refusal, switch_refusal, cable_refusal, is_full as fullness};
 ghost use Rattle.fabric_map.specs.Growing.{may_have, is_used};
 ghost use Rattle.fabric_map.specs.Table.{far_pair, port_at};
-ghost use Rattle.port_table.specs.Ends.{IsOutside};
+ghost use Rattle.port_align.specs.Ends.{IsOutside};
 
 use crate::cabling::{Cabling, is_close, is_port};
 use crate::fault::MapFault;

@@ -2,7 +2,7 @@
 use Rattle.std.proofs.Common.{◌<◌, suc, List, [], ◌∷◌, ◌++◌, take, refl, sym, ◌∙◌, subst, arith}
 use Rattle.world_defs.specs.World.{WorldState, last_count}
 use Rattle.world_defs.specs.Sound.{IsSound}
-use Rattle.act_defs.specs.Acts.{acted_all, MayActAll}
+use Rattle.world_defs.specs.Acts.{acted_all, MayActAll}
 use Rattle.run_defs.specs.declared.command.Command.{Command}
 use Rattle.run_defs.specs.declared.command.Command.TheVariants.{Map, Install, Settle}
 use Rattle.run_defs.specs.declared.line.Line.TheVariants.{Map as MapLine, Installed, Settle as SettleLine}

@@ -10,7 +10,7 @@ use Rattle.run_defs.specs.declared.command.Command.{Command}
 use Rattle.run_defs.specs.declared.command.Command.TheVariants.{Finish}
 use Rattle.run_defs.specs.Script.{command_of, is_end, ended, script_from, script_reading}
 use Rattle.fab_script.specs.Ranges.{IsCommandOf}
-use Rattle.run_bounds.proofs.Running.{runs-inject-few}
+use Rattle.injection_bounds.proofs.Running.{runs-inject-few}
 use Rattle.input_texts.specs.Reading.{AcceptedText, input_limit, reading_from, reading}
 use Rattle.fabric_run.specs.Left.{InjectionsAreLeft}
 use Rattle.fabric_run.proofs.Promises.{IsOver, is-over, all-take}

@@ -25,8 +25,8 @@ use Rattle.print_laws.specs.Shown.{IsPrintedAfter}
 use Rattle.print_laws.proofs.Shown.{complete_maps_are_one}
 use Rattle.message_laws.proofs.Fillings.{coming-tied}
 use Rattle.message_laws.proofs.Sound.{reached-sound}
-use Rattle.seen_laws.proofs.Fronts.{polled-front}
-use Rattle.return_laws.proofs.Returned.{events-of_tokens, polls-of_tokens}
+use Rattle.client_laws.proofs.Fronts.{polled-front}
+use Rattle.client_laws.proofs.Returned.{events-of_tokens, polls-of_tokens}
 use Rattle.promise_laws.proofs.Said.{said-command, said-act}
 use Rattle.promise_laws.specs.Existence.{HasDone, HasRun}
 use Rattle.promise_laws.proofs.Acting.{deeds_are_single_acts}

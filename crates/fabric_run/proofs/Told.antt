@@ -10,7 +10,7 @@ use Rattle.map_defs.specs.Sameness.{IsMapOfPart}
 use Rattle.link_defs.specs.Links.{is_idle}
 use Rattle.journal_defs.specs.declared.entry.Entry.{Entry}
 use Rattle.circ_defs.specs.CircuitMap.{IsCircuitMap}
-use Rattle.circ_map_laws.proofs.Numbering.{circuit_map_is_core}
+use Rattle.circ_laws.proofs.Numbering.{circuit_map_is_core}
 use Rattle.duo_defs.specs.declared.event.DuoEvent.TheVariants.{Poll as DuoPoll}
 use Rattle.world_defs.specs.World.{WorldState, fabric_of, last_count}
 use Rattle.world_defs.specs.Settle.{unacknowledged_in}
@@ -48,9 +48,9 @@ use Rattle.print_laws.proofs.Shown.{mapping-of, printed_maps_stand}
 use Rattle.print_laws.proofs.Marks.{marks_are_right}
 use Rattle.print_laws.proofs.Pieces.{maps_of_runs_read_back}
 use Rattle.print_laws.proofs.Routes.{printed_routes_are_right}
-use Rattle.install_line_laws.proofs.Lines.{line-true}
-use Rattle.settle_line_laws.specs.Lines.{IsSettledLine}
-use Rattle.settle_line_laws.proofs.Lines.{run-can_settle, line-true as settled-true}
+use Rattle.run_laws.proofs.InstallLines.{line-true}
+use Rattle.run_laws.specs.SettleLines.{IsSettledLine}
+use Rattle.run_laws.proofs.SettleLines.{run-can_settle, line-true as settled-true}
 use Rattle.delivery_laws.specs.Delivery.{HasEnough, HasPaths}
 use Rattle.delivery_laws.proofs.Delivered.{settle-delivers}
 use Rattle.promise_laws.specs.CableLines.{IsPlugTold}

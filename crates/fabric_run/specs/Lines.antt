@@ -28,8 +28,8 @@ use Rattle.map_canon.specs.Reading.{map_reading}
 use Rattle.delivery_laws.specs.Delivery.{HasEnough, HasPaths}
 use Rattle.print_laws.specs.Standing.{StandsOver}
 use Rattle.print_laws.specs.Routes.{AreRoutesTold}
-use Rattle.install_line_laws.specs.Runs.{IsInstalledLine}
-use Rattle.settle_line_laws.specs.Lines.{IsSettledLine}
+use Rattle.run_laws.specs.InstallLines.{IsInstalledLine}
+use Rattle.run_laws.specs.SettleLines.{IsSettledLine}
 use Rattle.promise_laws.specs.CableLines.{IsPullTold, IsPlugTold, IsRevokeTold}
 
 -- A planned fault lost, held or flipped a packet between two moments, or a cable went.

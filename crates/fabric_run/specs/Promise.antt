@@ -3,7 +3,7 @@ use Rattle.std.specs.Prelude.{◌≡◌, ℕ, List, take}
 use Rattle.map_defs.specs.NetMap.{NetMap}
 use Rattle.world_defs.specs.World.{WorldState, fabric_of}
 use Rattle.world_defs.specs.Sound.{IsSound}
-use Rattle.act_defs.specs.Acts.{IsReached}
+use Rattle.world_defs.specs.Acts.{IsReached}
 use Rattle.run_defs.specs.declared.command.Command.{Command}
 use Rattle.run_defs.specs.declared.command.Command.TheVariants.{Map}
 use Rattle.run_defs.specs.declared.line.MapWords.TheVariants.{Complete}
@@ -13,8 +13,8 @@ use Rattle.run_defs.specs.Session.{SessionState}
 use Rattle.run_defs.specs.Run.{IsRun}
 use Rattle.print_laws.specs.Shown.{PrintsMap}
 use Rattle.message_laws.specs.Filling.{HasTiedParts}
-use Rattle.seen_laws.specs.Seen.{PolledIsFrontOfAccepted}
-use Rattle.return_laws.specs.Noted.{SentEventsAreOfTokens, PolledTokensAreOfMessages}
+use Rattle.client_laws.specs.Seen.{PolledIsFrontOfAccepted}
+use Rattle.client_laws.specs.Noted.{SentEventsAreOfTokens, PolledTokensAreOfMessages}
 use Rattle.promise_laws.specs.CommandActs.{AreSingleActs}
 use Rattle.promise_laws.specs.Existence.{HasDone, HasRun}
 use Rattle.promise_laws.specs.ReceivedLines.{AreReceivedAsSent}

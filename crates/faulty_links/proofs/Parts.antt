@@ -12,7 +12,7 @@ use Rattle.link_defs.specs.Fault.{lose, reset, repeat, hold, flip, pull, plug, r
 use Rattle.link_defs.specs.Hops.{changes}
 use Rattle.link_defs.specs.Laws.{is_idle_replay}
 use Rattle.link_defs.proofs.Slots.{set-same}
-use Rattle.channel_slots.proofs.Counting.{set-set}
+use Rattle.link_model.proofs.Counting.{set-set}
 use Rattle.net_defs.proofs.Growing.{no_some}
 use Rattle.link_defs.proofs.Idling.{lose-idle, repeat-idle, hold-idle, flip-idle, replay-idle, pull-idle, plug-idle}
 use Rattle.link_defs.proofs.HopsLeft.{advance-still}

@@ -7,7 +7,7 @@ ghost use Rattle.cable_history.specs.Crossed.{leaving, life_channels, life_tail,
 ghost use Rattle.link_defs.specs.Hops.{total_hops};
 ghost use Rattle.link_defs.specs.Links.{packet_in, is_idle};
 ghost use Rattle.link_defs.specs.Fault.{next_limbo};
-ghost use Rattle.channel_slots.specs.Full.{full_count, IsLone};
+ghost use Rattle.link_model.specs.FullSlots.{full_count, IsLone};
 ghost use Rattle.link_model.specs.Full.{next_full, IsNextFull};
 ghost use Rattle.world_defs.specs.World.{new_world};
 ghost use Rattle.faulty_links.specs.Held.{of_world, can_inject};

@@ -5,3 +5,8 @@ pub mod Pairs
 pub mod Sent
 pub mod Stepping
 pub mod Waiting
+pub mod Noted
+pub mod OneLane
+pub mod Places
+pub mod Unused
+pub mod Forgotten

@@ -3,3 +3,7 @@ pub mod Halves
 pub mod Laws
 pub mod Pair
 pub mod Ring
+pub mod First
+pub mod Lane
+pub mod Lanes
+pub mod Sets

@@ -18,7 +18,7 @@ use Rattle.duo_defs.specs.declared.effect.DuoEffect.TheVariants.{Token, Refused}
 use Rattle.duo_defs.specs.declared.effect.DuoCause.{DuoCause}
 use Rattle.duo_defs.specs.declared.effect.DuoCause.TheVariants.{NoToken, TooLong, Spent, BadSize}
 use Rattle.world_defs.specs.Lane.{LaneState, Ticket, with_message}
-use Rattle.host_lanes.specs.Lane.{HostLane, in_state as lane_in}
+use Rattle.gm_conn.specs.Lane.{HostLane, in_state as lane_in}
 use Rattle.port_client.specs.Serving.{ServedPort, send_used}
 use Rattle.duo_defs.specs.Duo.{Period, Returned, EndState, plain_message}
 use Rattle.duo_defs.specs.Step.{accepted, sending, with_buffer, providing}

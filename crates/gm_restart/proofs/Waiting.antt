@@ -11,7 +11,7 @@ use Rattle.gm_defs.specs.Token.{PortState}
 use Rattle.gm_defs.specs.Body.{frame_bytes}
 use Rattle.gm_defs.specs.Port.{finished}
 use Rattle.world_defs.specs.Lane.{LaneState, Ticket, finished_by, lane_sent_one}
-use Rattle.host_lanes.specs.Lane.{due_frame, head_of_frame}
+use Rattle.gm_conn.specs.Lane.{due_frame, head_of_frame}
 use Rattle.duo_defs.specs.declared.packet.Packet.{Packet}
 use Rattle.duo_defs.specs.Duo.{EndState, with_lane}
 use Rattle.duo_defs.specs.Emitting.{sends_on, data_of, frame_emission, due_frame as due_at}

@@ -2,7 +2,7 @@
 use Rattle.std.specs.Prelude.{◌≡◌, ℕ, ◌<◌, Bool, List, reverse}
 use Rattle.world_defs.specs.Lane.{LaneState}
 use Rattle.port_client.specs.Serving.{ServedPort}
-use Rattle.host_lanes.specs.Lane.{HostLane}
+use Rattle.gm_conn.specs.Lane.{HostLane}
 use Rattle.duo_defs.specs.Duo.{Period, Returned, EndState}
 use Rattle.duo_defs.specs.Emitting.{sends_on}
 

@@ -12,9 +12,9 @@ ghost use Rattle.gm_restart.specs.Calls.{send_refusal, is_quiet, IsOfEvent, told
 
 use crate::end::{End, other};
 use duo_defs::{DuoCause, DuoEffect};
+use gm_conn::{Envelope, OfferRefusal};
 use gm_defs::PIECE;
 use gm_tokens::NoMemory;
-use host_lanes::{Envelope, OfferRefusal};
 use port_client::{SendAsk, client_buffer, zero_buffer};
 use reg_mem::release;
 use std::alloc::{AllocError, Global};

@@ -4,13 +4,13 @@ ghost use Rattle.std.specs.Prelude.{◌≡◌, ◌<◌, [], reverse, IfSome, IfO
 ghost use Rattle.std.specs.Option.{IfNone};
 ghost use Rattle.duo_defs.specs.Duo.{tokens_each, beginning, other, sent_in, got_in, period_in, new_period};
 ghost use Rattle.duo_defs.specs.Emitting.{sends_on};
-ghost use Rattle.host_lanes.specs.Lane.{unused};
+ghost use Rattle.gm_conn.specs.Lane.{unused};
 ghost use Rattle.port_client.specs.Serving.{newly_served};
 
 use crate::period::{Back, Past};
+use gm_conn::Lane;
 use gm_defs::Message;
 use gm_tokens::NoMemory;
-use host_lanes::Lane;
 use port_client::ClientPort;
 use std::alloc::Global;
 use std::collections::VecDeque;

@@ -7,7 +7,7 @@ ghost use Rattle.duo_defs.specs.Theorem.{AreWaiting};
 ghost use Rattle.port_client.specs.Serving.{in_state};
 
 use crate::period::Back;
-use host_lanes::Lane;
+use gm_conn::Lane;
 use port_client::ClientPort;
 use std::collections::VecDeque;
 

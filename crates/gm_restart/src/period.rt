@@ -3,7 +3,7 @@
 ghost use Rattle.std.specs.Prelude.{◌≡◌};
 ghost use Rattle.duo_defs.specs.Duo.{is_of};
 
-use host_lanes::Lane;
+use gm_conn::Lane;
 use std::marker::Model;
 
 /// A period: a time in which an end was one incarnation and knew one of its peer, 0 where it knew none.

@@ -4,13 +4,13 @@ ghost use Rattle.std.specs.Prelude.{◌≡◌, ◌<◌, ◌≤◌, ◌+◌, ◌*
 ghost use Rattle.net_defs.specs.Turn.{IsTurn};
 ghost use Rattle.packet_defs.specs.RouteByte.{route_byte};
 ghost use Rattle.packet_defs.specs.Packet.{head_of};
-ghost use Rattle.mapping_defs.specs.Mapping.{MappingBody, mapping_bytes};
+ghost use Rattle.mapper_bodies.specs.Mapping.{MappingBody, mapping_bytes};
 ghost use Rattle.world_defs.specs.Node.{way_back};
 
 use crate::route::opposite_at;
 use myri_packet::{Kind, type_bytes};
+use packet_defs::{route_byte, write_turns};
 use probe::{host_probe_front, loop_bytes};
-use turn_bytes::{route_byte, write_turns};
 
 /// The most bytes of a probe's head: 64 route bytes, the type, and a body.
 pub(crate) const MAX_HEAD: usize = 142;

@@ -20,7 +20,7 @@ use Rattle.world_defs.specs.World.{WorldState, host_count, new_world, node_at, c
 use Rattle.world_defs.specs.Step.{sent_out, wanted}
 use Rattle.world_defs.proofs.Views.{LinksChange, HostChange, CallChange, Change, view}
 use Rattle.world_defs.proofs.Strikes.{fault_step, Strike, strike_view}
-use Rattle.act_defs.specs.Acts.{Act, Happens, Plans, Adopts, acted}
+use Rattle.world_defs.specs.Acts.{Act, Happens, Plans, Adopts, acted}
 use Rattle.injection_bounds.specs.Credit.{slot_credit, links_credit, lane_credit, node_credit, credit}
 use Rattle.injection_bounds.specs.Paid.{event_cost, cost, account, InjectionsArePaid, InjectionsAreOfActs}
 use Rattle.injection_bounds.proofs.Sums.{set-sum, none-sum}

@@ -14,7 +14,7 @@ use Rattle.world_defs.proofs.LogViews.{drain, Sent, sends, heard_by, host_try, l
 use Rattle.world_laws.proofs.Along.{Along, after_all-along, drain-along}
 use Rattle.world_laws.proofs.Leaves.{IsNoCall}
 use Rattle.world_laws.proofs.Rounds.{Going, along-going, fragments-fewer}
-use Rattle.act_defs.specs.Acts.{Happens}
+use Rattle.world_defs.specs.Acts.{Happens}
 use Rattle.injection_bounds.specs.Paid.{event_cost}
 use Rattle.injection_bounds.specs.Settled.{pledged}
 use Rattle.injection_bounds.specs.Commands.{AskCostsFew, HasFewParts, InstallCostsFew}

@@ -15,7 +15,7 @@ use Rattle.world_defs.specs.World.{WorldState, node_at, client_at, adoption_of}
 use Rattle.world_defs.specs.Settle.{unacknowledged_in}
 use Rattle.world_defs.specs.Step.{of_call, wanted, step}
 use Rattle.world_laws.proofs.Leaves.{IsNoCall}
-use Rattle.act_defs.specs.Acts.{Happens, Plans, Adopts, acted, IsReached}
+use Rattle.world_defs.specs.Acts.{Happens, Plans, Adopts, acted, IsReached}
 use Rattle.injection_bounds.specs.Paid.{send_cost, event_cost, account}
 use Rattle.injection_bounds.specs.Settled.{pledged}
 use Rattle.injection_bounds.specs.Commands.{act_cost, ActCostsFew}

@@ -1,3 +1,7 @@
+pub mod Asks
+pub mod Parts
+pub mod Starting
+pub mod Running
 pub mod Sums
 pub mod Packets
 pub mod Lanes

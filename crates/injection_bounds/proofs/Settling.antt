@@ -22,8 +22,8 @@ use Rattle.world_laws.proofs.Repeating.{up_to-chain}
 use Rattle.world_laws.proofs.Along.{Along, steps-along, after_all-along, clear-along, round-along}
 use Rattle.world_laws.proofs.Reached.{settles-of}
 use Rattle.world_laws.proofs.Rounds.{Going, left_over, fragments-fewer, not_last-less, round_going, clear-raises, settle-ends}
-use Rattle.act_defs.specs.Acts.{Happens, IsReached}
-use Rattle.act_defs.proofs.Reaching.{reached-next}
+use Rattle.world_defs.specs.Acts.{Happens, IsReached}
+use Rattle.world_defs.proofs.Reaching.{reached-next}
 use Rattle.message_laws.proofs.Windows.{reached-windowed, windows-hold}
 use Rattle.message_laws.proofs.Known.{reached-count}
 use Rattle.injection_bounds.specs.Paid.{sent_ahead, event_cost, account}

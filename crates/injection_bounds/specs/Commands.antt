@@ -5,7 +5,7 @@ use Rattle.world_defs.specs.Table.{Adoption}
 use Rattle.world_defs.specs.World.{WorldState}
 use Rattle.world_defs.specs.Install.{parts_of}
 use Rattle.world_defs.specs.Logs.{ask, install}
-use Rattle.act_defs.specs.Acts.{Act, acted, IsReached}
+use Rattle.world_defs.specs.Acts.{Act, acted, IsReached}
 use Rattle.injection_bounds.specs.Settled.{round_cost, pledged}
 
 -- the most that an ask costs: eight tries of each kind of probe, and two for each, the probe and its answer

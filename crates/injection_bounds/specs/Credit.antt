@@ -2,7 +2,7 @@
 use Rattle.std.specs.Prelude.{ℕ, ◌+◌, ◌-◌, ◌*◌, List, map, length, is_some, if◌then◌else◌, Option, Some, None}
 use Rattle.packet_defs.specs.Host.{body_of}
 use Rattle.link_defs.specs.Links.{Held, Caught, LinkState}
-use Rattle.mapping_defs.specs.Mapping.MappingBody.{HostProbe, Part}
+use Rattle.mapper_bodies.specs.Mapping.MappingBody.{HostProbe, Part}
 use Rattle.world_defs.specs.Lane.{LaneState}
 use Rattle.world_defs.specs.Node.{NodeState}
 use Rattle.world_defs.specs.Hearing.{PacketBody, OfMapper, OfFrame, packet_read}

@@ -11,7 +11,7 @@ use Rattle.world_defs.specs.declared.event.Event.TheVariants.{Poll, Revoke}
 use Rattle.world_defs.specs.declared.event.Event.TheVariants.{Pull, Plug}
 use Rattle.world_defs.specs.Node.{NodeState, lane_of, lane_at}
 use Rattle.world_defs.specs.World.{WorldState, new_world, node_at}
-use Rattle.act_defs.specs.Acts.{Act, Happens, Plans, Adopts, acted, acted_all}
+use Rattle.world_defs.specs.Acts.{Act, Happens, Plans, Adopts, acted, acted_all}
 use Rattle.injection_bounds.specs.Credit.{credit}
 
 -- how many fragments of a lane were sent and aren't acknowledged

@@ -4,7 +4,7 @@ use Rattle.net_defs.specs.Network.{Network}
 use Rattle.world_defs.specs.World.{WorldState}
 use Rattle.world_defs.specs.Settle.{unacknowledged_in}
 use Rattle.world_defs.specs.Logs.{settle}
-use Rattle.act_defs.specs.Acts.{IsReached}
+use Rattle.world_defs.specs.Acts.{IsReached}
 use Rattle.injection_bounds.specs.Paid.{account}
 
 -- the most that the expiries of a round cost: 128 hosts, 128 peers of each, two lanes to each peer, a window of eight

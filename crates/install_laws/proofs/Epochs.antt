@@ -9,8 +9,8 @@ use Rattle.world_defs.specs.Table.{Adoption, TableState, epoch_in, has_revoked, 
 use Rattle.world_defs.specs.Node.{NodeState, new_node}
 use Rattle.world_defs.specs.World.{WorldState, host_count, node_at, is_any_revoked, standing_of, may_adopt, adoption_of, adopted_by}
 use Rattle.world_defs.proofs.Lists.{each-set}
-use Rattle.act_defs.proofs.Epochs.{Adopting, adopting, none-revoked}
-use Rattle.act_defs.specs.Acts.{IsReached}
+use Rattle.world_defs.proofs.AdoptedEpochs.{Adopting, adopting, none-revoked}
+use Rattle.world_defs.specs.Acts.{IsReached}
 use Rattle.table_laws.proofs.Dependencies.{tables-of_set}
 use Rattle.install_laws.proofs.Tables.{due-now}
 

@@ -16,7 +16,7 @@ use Rattle.world_defs.specs.Logs as log
 use Rattle.world_defs.proofs.LogViews.{hosts_installed, installed}
 use Rattle.ask_laws.proofs.Lone.{IsBare, is-bare, bare-idle}
 use Rattle.ask_laws.proofs.Ready.{kept-start}
-use Rattle.act_defs.specs.Acts.{Act, Happens, Plans, Adopts, acted, acted_all, IsReached}
+use Rattle.world_defs.specs.Acts.{Act, Happens, Plans, Adopts, acted, acted_all, IsReached}
 use Rattle.table_laws.proofs.Steps.{IsAdopted, adopted-fits}
 use Rattle.install_laws.proofs.Worlds.{installed-of}
 use Rattle.install_laws.proofs.Leads.{Leads, along-leads, reached-further}
@@ -26,7 +26,7 @@ use Rattle.install_laws.specs.Cause.{MissedHostsWereHarmed}
 use Rattle.install_laws.specs.Tables.{CountedHostsHaveTables}
 use Rattle.install_laws.specs.Counts.{EachMissCostsFaults}
 use Rattle.table_laws.proofs.Dependencies.{reached-of}
-use Rattle.act_defs.proofs.Cables.{reached-cables, reached-history}
+use Rattle.world_defs.proofs.Cables.{reached-cables, reached-history}
 use Rattle.install_laws.proofs.Since.{IsSince}
 use Rattle.install_laws.proofs.Epochs.{reached-due}
 use Rattle.install_laws.proofs.Between.{Between, kept-ask, kept-both, between-start}

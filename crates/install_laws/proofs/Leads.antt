@@ -8,7 +8,7 @@ use Rattle.world_defs.specs.World.{WorldState, fabric_of, new_world, planned, ma
 use Rattle.world_defs.specs.Step.{step}
 use Rattle.world_defs.specs.EightBits.{IsByteFault, IsByteEvent}
 use Rattle.world_laws.proofs.Along.{Along}
-use Rattle.act_defs.specs.Acts.{Act, Happens, Plans, Adopts, acted, acted_all, AreAdoptable, MayActAll, IsReached}
+use Rattle.world_defs.specs.Acts.{Act, Happens, Plans, Adopts, acted, acted_all, AreAdoptable, MayActAll, IsReached}
 
 pub record Leads (w v : WorldState) : Type 0 where
   pub acts : List Act

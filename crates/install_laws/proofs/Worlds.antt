@@ -5,8 +5,8 @@ use Rattle.world_defs.specs.declared.event.Event.{Event}
 use Rattle.world_defs.specs.declared.fault.Fault.{Fault}
 use Rattle.world_defs.specs.Table.{Adoption}
 use Rattle.world_defs.specs.World.{WorldState, planned, adopted_by}
-use Rattle.act_defs.specs.Acts.{Happens, Plans, Adopts}
-use Rattle.act_defs.proofs.Kept.{CablesKept, kept-same, kept-both, acted-kept}
+use Rattle.world_defs.specs.Acts.{Happens, Plans, Adopts}
+use Rattle.world_defs.proofs.ActsKept.{CablesKept, kept-same, kept-both, acted-kept}
 use Rattle.world_defs.specs.Step.{step}
 use Rattle.world_defs.proofs.Kept.{step-adopted, with-all, step-plan}
 use Rattle.world_defs.specs.EightBits.{IsByteFault, IsByteEvent, HasByteFaults}

@@ -6,7 +6,7 @@ use Rattle.link_defs.specs.Links.{is_idle}
 use Rattle.net_defs.specs.RouteSet.{AreRising, HasRoute}
 use Rattle.world_defs.specs.Table.{Adoption, has_revoked}
 use Rattle.world_defs.specs.World.{WorldState, host_count, node_at}
-use Rattle.act_defs.specs.Acts.{IsReached}
+use Rattle.world_defs.specs.Acts.{IsReached}
 
 -- a set has a route from its adopter to a host, and one back
 pub record IsJoined (a : Adoption) (host : ℕ) : Type 0 where

@@ -1,7 +1,6 @@
 //! Why an installation counts fewer hosts than it has, what the counted ones have, and what it leaves as it was.
 //!
-//! It installs nothing; what the line of an installation says in a run is `install_line_laws`. Read `specs/Cause.antt`
-//! first.
+//! It installs nothing; what the line of an installation says in a run is `run_laws`. Read `specs/Cause.antt` first.
 //!
 //! | file of `specs/` | says |
 //! |---|---|

@@ -8,9 +8,9 @@ use Rattle.port_ledgers.specs.declared.lane.PortName.{PortName}
 use Rattle.run_defs.specs.declared.command.Command.{Command}
 use Rattle.run_defs.specs.declared.command.Command.TheVariants.{Begin, Send, Poll, Install, Pull, Plug, Broken}
 use Rattle.run_defs.specs.Examples.{text_of}
-use Rattle.line_forms.specs.declared.line.ReportLine.{ReportLine}
-use Rattle.line_forms.specs.declared.line.ReportLine.TheVariants.{Opened, Accepted, Received, Returned, NoBroken}
-use Rattle.line_forms.specs.declared.line.ReportLine.TheVariants.{Pull as PullLine, Plug as PlugLine}
+use Rattle.report_lines.specs.declared.line.ReportLine.{ReportLine}
+use Rattle.report_lines.specs.declared.line.ReportLine.TheVariants.{Opened, Accepted, Received, Returned, NoBroken}
+use Rattle.report_lines.specs.declared.line.ReportLine.TheVariants.{Pull as PullLine, Plug as PlugLine}
 use Rattle.answer_defs.specs.Answer.{Alone, WithBroken, WithTables, Answered}
 use Rattle.judge_defs.specs.Form.{known_by, answer_from}
 use Rattle.answer_defs.specs.Answer.{answered}

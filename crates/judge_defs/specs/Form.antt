@@ -20,19 +20,19 @@ use Rattle.run_defs.specs.declared.line.ClientCall.{ClientCall}
 use Rattle.run_defs.specs.declared.line.ClientCall.TheVariants.{Begin as BeginCall, Close as CloseCall}
 use Rattle.run_defs.specs.declared.line.ClientCall.TheVariants.{Provide as ProvideCall, Send as SendCall}
 use Rattle.run_defs.specs.declared.line.ClientCall.TheVariants.{Poll as PollCall, Tokens as TokensCall}
-use Rattle.line_forms.specs.declared.line.MapSaid.TheVariants.{Overgrown}
-use Rattle.line_forms.specs.declared.line.ReportLine.{ReportLine}
-use Rattle.line_forms.specs.declared.line.ReportLine.TheVariants.{Walk as WalkLine, Map as MapLine, MapBusy}
-use Rattle.line_forms.specs.declared.line.ReportLine.TheVariants.{Circuit as CircuitLine, CircuitNodes, NoMap}
-use Rattle.line_forms.specs.declared.line.ReportLine.TheVariants.{Routes as RoutesLine, Route as RouteLine, EndRoutes}
-use Rattle.line_forms.specs.declared.line.ReportLine.TheVariants.{Rank as RankLine, Installed, Table, InstallRefused}
-use Rattle.line_forms.specs.declared.line.ReportLine.TheVariants.{Opened, Closed, Provided, Accepted, Returned}
-use Rattle.line_forms.specs.declared.line.ReportLine.TheVariants.{Received, NothingCame, CallRefused}
-use Rattle.line_forms.specs.declared.line.ReportLine.TheVariants.{Tokens as TokensLine, PlanAt, Step as StepLine}
-use Rattle.line_forms.specs.declared.line.ReportLine.TheVariants.{Settle as SettleLine, Finish as FinishLine}
-use Rattle.line_forms.specs.declared.line.ReportLine.TheVariants.{Pull as PullLine, Plug as PlugLine, Revoked}
-use Rattle.line_forms.specs.declared.line.ReportLine.TheVariants.{Broken as BrokenLine, EndBroken, NoBroken}
-use Rattle.line_forms.specs.Words.{host_said}
+use Rattle.report_lines.specs.declared.line.MapSaid.TheVariants.{Overgrown}
+use Rattle.report_lines.specs.declared.line.ReportLine.{ReportLine}
+use Rattle.report_lines.specs.declared.line.ReportLine.TheVariants.{Walk as WalkLine, Map as MapLine, MapBusy}
+use Rattle.report_lines.specs.declared.line.ReportLine.TheVariants.{Circuit as CircuitLine, CircuitNodes, NoMap}
+use Rattle.report_lines.specs.declared.line.ReportLine.TheVariants.{Routes as RoutesLine, Route as RouteLine, EndRoutes}
+use Rattle.report_lines.specs.declared.line.ReportLine.TheVariants.{Rank as RankLine, Installed, Table, InstallRefused}
+use Rattle.report_lines.specs.declared.line.ReportLine.TheVariants.{Opened, Closed, Provided, Accepted, Returned}
+use Rattle.report_lines.specs.declared.line.ReportLine.TheVariants.{Received, NothingCame, CallRefused}
+use Rattle.report_lines.specs.declared.line.ReportLine.TheVariants.{Tokens as TokensLine, PlanAt, Step as StepLine}
+use Rattle.report_lines.specs.declared.line.ReportLine.TheVariants.{Settle as SettleLine, Finish as FinishLine}
+use Rattle.report_lines.specs.declared.line.ReportLine.TheVariants.{Pull as PullLine, Plug as PlugLine, Revoked}
+use Rattle.report_lines.specs.declared.line.ReportLine.TheVariants.{Broken as BrokenLine, EndBroken, NoBroken}
+use Rattle.report_lines.specs.Words.{host_said}
 use Rattle.report_lines.specs.Lines.{line_said}
 use Rattle.map_canon.specs.Declaring.{vertex_of_switch}
 use Rattle.map_canon.specs.Reading.{MapPart, map_part}

@@ -3,8 +3,8 @@
 ghost use Rattle.std.specs.Prelude.{◌≡◌};
 ghost use Rattle.judge_defs.specs.Form.{same_call, call_of, call_in};
 
-use line_forms::ReportLine;
 use port_ledgers::PortName;
+use report_lines::ReportLine;
 use run_defs::{ClientCall, Command};
 
 /// Whether both are there, and the same call of the same port.

@@ -1,12 +1,12 @@
 //! Which line is due next among those of an answer, and which line ends them.
 
 ghost use Rattle.std.specs.Prelude.{◌≡◌, Some};
-ghost use Rattle.line_forms.specs.declared.line.ReportLine.TheVariants.{NoBroken};
+ghost use Rattle.report_lines.specs.declared.line.ReportLine.TheVariants.{NoBroken};
 ghost use Rattle.judge_defs.specs.Form.{table_due, rising_table_due, is_address_above, is_end_of_routes};
 ghost use Rattle.judge_defs.specs.Form.{pair_in, pair_due, is_pair_above, is_end_of_broken};
 
-use line_forms::{ReportLine, host};
 use port_graph::Fabric;
+use report_lines::{ReportLine, host};
 
 /// The host of a table, where it is due.
 pub fn table_due(due: u16, line: &ReportLine) -> Option<u16>

@@ -8,8 +8,8 @@ ghost use Rattle.run_defs.specs.declared.command.StepLine.{StepLine};
 ghost use Rattle.judge_defs.specs.Form.{may_answer};
 
 use crate::calls::{call_in, call_of, same_call};
-use line_forms::ReportLine;
 use port_graph::End;
+use report_lines::ReportLine;
 use run_defs::Command;
 
 /// Whether a line may be the first of a command's answer.

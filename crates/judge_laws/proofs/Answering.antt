@@ -17,10 +17,10 @@ use Rattle.run_defs.specs.declared.line.Line.TheVariants.{Routes as RoutesLine, 
 use Rattle.run_defs.specs.LineText.{line_text, map_text, output_text}
 use Rattle.run_defs.specs.Output.{Piece, OneLine, MapLines, lines}
 use Rattle.run_defs.specs.Run.{route_line, rank_line}
-use Rattle.line_forms.specs.declared.line.MapSaid.TheVariants.{Complete, Doubtful, Shallow}
-use Rattle.line_forms.specs.declared.line.ReportLine.{ReportLine}
-use Rattle.line_forms.specs.declared.line.ReportLine.TheVariants.{Map, Circuit, Routes, Installed}
-use Rattle.line_forms.specs.declared.line.ReportLine.TheVariants.{Broken as BrokenSaid, EndBroken as EndBrokenSaid, NoBroken as NoBrokenSaid}
+use Rattle.report_lines.specs.declared.line.MapSaid.TheVariants.{Complete, Doubtful, Shallow}
+use Rattle.report_lines.specs.declared.line.ReportLine.{ReportLine}
+use Rattle.report_lines.specs.declared.line.ReportLine.TheVariants.{Map, Circuit, Routes, Installed}
+use Rattle.report_lines.specs.declared.line.ReportLine.TheVariants.{Broken as BrokenSaid, EndBroken as EndBrokenSaid, NoBroken as NoBrokenSaid}
 use Rattle.map_canon.specs.Reading.{map_part, map_reading}
 use Rattle.answer_defs.specs.Answer.{Answer, Alone, WithMap, WithRoutes, WithTables, WithBroken}
 use Rattle.judge_defs.specs.Form.{Known, Reads, may_answer, rank_lines, routes_block, table_lines, tables_of, tables_block, map_block, pair_in, broken_block, refused_block, block_of, answer_by, answer_from}

@@ -13,7 +13,7 @@ use Rattle.run_defs.specs.declared.line.PlaceEntry.{PlaceEntry}
 use Rattle.run_defs.specs.LineText.{hex_digit, hex_text, place_word, place_text}
 use Rattle.fabric_file.proofs.PlainLines.{is_plain_byte, is_plain}
 use Rattle.fabric_file.proofs.PlainWords.{number-any, number-plain}
-use Rattle.line_forms.specs.Words.{value_said}
+use Rattle.report_lines.specs.Words.{value_said}
 use Rattle.report_lines.specs.Bytes.{is_hex_digit, hex_value, byte_said, pairs_said, bytes_said}
 use Rattle.report_lines.specs.Places.{with_client_said, placed, place_cut, place_said, places_said, both_said}
 use Rattle.judge_laws.specs.Lines.{IsCounted, AreBytes, AreNumbered, told_place}

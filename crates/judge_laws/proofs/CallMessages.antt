@@ -19,7 +19,7 @@ use Rattle.run_defs.specs.declared.line.ClientCall.{ClientCall}
 use Rattle.run_defs.specs.declared.line.ClientCall.TheVariants.{Begin as BeginCall, Close as CloseCall, Provide as ProvideCall, Send as SendCall, Poll as PollCall, Tokens as TokensCall}
 use Rattle.run_defs.specs.declared.line.Line.TheVariants.{Client}
 use Rattle.run_defs.specs.Output.{Piece, OneLine}
-use Rattle.seen_laws.specs.Handed.{Handed, in_answer, is_on, is_sent_on}
+use Rattle.client_laws.specs.Handed.{Handed, in_answer, is_on, is_sent_on}
 use Rattle.promise_laws.specs.ReceivedLines.{is_send, accepted_by_lines, accepted_of}
 use Rattle.judge_laws.proofs.Messages.{IsMessageTold, connection, on, of_lane}
 use Rattle.judge_laws.proofs.Quiet.{IsQuiet, quiet-messages}

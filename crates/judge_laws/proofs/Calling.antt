@@ -15,7 +15,7 @@ use Rattle.world_defs.specs.Node.{NodeState, port_at}
 use Rattle.world_defs.specs.Client.{ClientState, Called}
 use Rattle.world_defs.specs.Sound.{AreOwned, HasOwners}
 use Rattle.world_defs.specs.World.{WorldState, fabric_of, node_at, client_at, with_node, with_client}
-use Rattle.act_defs.specs.Acts.{IsReached}
+use Rattle.world_defs.specs.Acts.{IsReached}
 use Rattle.owner_laws.proofs.Owners.{always-owned}
 use Rattle.port_ledgers.specs.declared.lane.PortName.{PortName}
 use Rattle.port_ledgers.specs.Told.{Told}
@@ -36,9 +36,9 @@ use Rattle.run_defs.specs.Session.{SessionState}
 use Rattle.run_laws.specs.Acts.{IsActOf}
 use Rattle.run_laws.proofs.Reaching.{run_is_reached}
 use Rattle.run_laws.proofs.RunsOnce.{runs-more}
-use Rattle.line_forms.specs.declared.line.ReportLine.{ReportLine}
-use Rattle.line_forms.specs.declared.line.ReportLine.TheVariants.{CallRefused, Tokens as TokensRead}
-use Rattle.seen_laws.specs.Handed.{Handed}
+use Rattle.report_lines.specs.declared.line.ReportLine.{ReportLine}
+use Rattle.report_lines.specs.declared.line.ReportLine.TheVariants.{CallRefused, Tokens as TokensRead}
+use Rattle.client_laws.specs.Handed.{Handed}
 use Rattle.promise_laws.specs.ReceivedLines.{received_in}
 use Rattle.promise_laws.proofs.Said.{said-act, said-command}
 use Rattle.answer_defs.specs.Answer.{Alone, Answered, complete_by, complete_map, shown_by, shown_map, fabric_by, fabric_after, told, told_by}

@@ -64,9 +64,9 @@ use Rattle.run_defs.specs.Outcome.{Outcome, fault_of, words_of, is_done, words_o
 use Rattle.run_defs.proofs.Doing.{acted-settle, acted-installation}
 use Rattle.run_defs.specs.Run.{map_pieces, routes_lines, hosts_by_address}
 use Rattle.mapping_laws.specs.Runs.{IsSessionOf}
-use Rattle.line_forms.specs.declared.line.MapSaid.TheVariants.{Complete as SaidComplete, Doubtful as SaidDoubtful, Shallow, Overgrown}
-use Rattle.line_forms.specs.declared.line.ReportLine.{ReportLine}
-use Rattle.line_forms.specs.declared.line.ReportLine.TheVariants.{NoMap as NoMapSaid, NoBroken as NoBrokenSaid, Walk as WalkSaid, Map as MapRead, MapBusy as BusySaid, Circuit as CircuitSaid, CircuitNodes as NodesSaid, InstallRefused as InstallRefusedSaid, PlanAt as PlanSaid, Step as StepSaid, Settle as SettleSaid, Finish as FinishSaid, Pull as PullSaid, Plug as PlugSaid, Revoked as RevokedSaid}
+use Rattle.report_lines.specs.declared.line.MapSaid.TheVariants.{Complete as SaidComplete, Doubtful as SaidDoubtful, Shallow, Overgrown}
+use Rattle.report_lines.specs.declared.line.ReportLine.{ReportLine}
+use Rattle.report_lines.specs.declared.line.ReportLine.TheVariants.{NoMap as NoMapSaid, NoBroken as NoBrokenSaid, Walk as WalkSaid, Map as MapRead, MapBusy as BusySaid, Circuit as CircuitSaid, CircuitNodes as NodesSaid, InstallRefused as InstallRefusedSaid, PlanAt as PlanSaid, Step as StepSaid, Settle as SettleSaid, Finish as FinishSaid, Pull as PullSaid, Plug as PlugSaid, Revoked as RevokedSaid}
 use Rattle.answer_defs.specs.Answer.{Alone, WithMap, WithRoutes, WithTables, WithBroken, hosts_in, Answered, complete_by, complete_map, shown_by, shown_map, fabric_by, where_taken, are_adopted}
 use Rattle.answer_defs.specs.Right.{MapIsTrue, LeadsBetween, AreRoutesTrue, HoldOn}
 use Rattle.judge_defs.specs.Form.{may_answer}

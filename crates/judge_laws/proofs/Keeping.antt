@@ -11,7 +11,7 @@ use Rattle.world_defs.specs.World.{WorldState, node_at, adopted_by, adoption_of,
 use Rattle.world_defs.specs.Table.{whole_table}
 use Rattle.world_defs.specs.Step.{step}
 use Rattle.world_defs.proofs.LogRows.{SettlesBy, AsksBy, all-map, settle-row, asks-row, install-row}
-use Rattle.act_defs.specs.Acts.{Happens, acted_all}
+use Rattle.world_defs.specs.Acts.{Happens, acted_all}
 use Rattle.run_defs.specs.declared.command.Command.{Command}
 use Rattle.run_defs.specs.declared.command.Command.TheVariants.{Begin, Close, Poll, Provide, Send, Step, Pull, Plug}
 use Rattle.run_defs.specs.declared.command.StepLine.{StepLine}

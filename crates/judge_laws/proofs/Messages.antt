@@ -25,7 +25,7 @@ use Rattle.port_ledgers.specs.Told.{Told, message_on, sent_by, received_by, sent
 use Rattle.run_defs.specs.declared.command.Command.{Command}
 use Rattle.run_defs.specs.declared.command.Command.TheVariants.{Send}
 use Rattle.run_defs.specs.Output.{Piece, OneLine, MapLines}
-use Rattle.seen_laws.specs.Handed.{Handed, IsOfConnection, is_on, is_to, as_handed, in_send}
+use Rattle.client_laws.specs.Handed.{Handed, IsOfConnection, is_on, is_to, as_handed, in_send}
 use Rattle.promise_laws.specs.ReceivedLines.{received_in_line, received_in, send_answer, send_answers, is_send, accepted_as, accepted_by_lines, accepted_of, AreReceivedAsSent}
 use Rattle.judge_laws.specs.Lines.{IsCounted, AreBytes}
 use Rattle.judge_laws.proofs.Names.{host-there}

@@ -21,8 +21,8 @@ use Rattle.fabric_file.proofs.PlainWords.{name-no_sign, name-plain}
 use Rattle.fab_script.specs.Ranges.{IsHost, IsEnd}
 use Rattle.run_defs.specs.LineText.{host_name, turn_text, vertex_text}
 use Rattle.map_canon.proofs.Words.{turn-read, turn-plain, switch-plain}
-use Rattle.line_forms.specs.Words.{where_read, address_in, host_said, end_in, end_said, turn_said, number_said, vertex_said}
-use Rattle.line_forms.specs.Forms.{turns_said}
+use Rattle.report_lines.specs.Words.{where_read, address_in, host_said, end_in, end_said, turn_said, number_said, vertex_said}
+use Rattle.report_lines.specs.Forms.{turns_said}
 use Rattle.judge_laws.specs.Lines.{IsVertexIn}
 use Rattle.judge_laws.proofs.Numbers.{within-read, counted-read}
 

@@ -6,7 +6,7 @@ use Rattle.std.proofs.lemmas.Bool.Decides.{nat_tests}
 use Rattle.net_defs.proofs.Ends.{both}
 use Rattle.fab_text.specs.Word.{is_digit, number_test}
 use Rattle.fabric_file.proofs.PlainWords.{number-any, number-read}
-use Rattle.line_forms.specs.Words.{where_read, number_said, value_said}
+use Rattle.report_lines.specs.Words.{where_read, number_said, value_said}
 use Rattle.judge_laws.specs.Lines.{IsCounted}
 
 -- a printed number is no word that begins with another byte, whatever follows it

@@ -6,7 +6,7 @@ use Rattle.net_defs.specs.Network.{Apart}
 use Rattle.gm_defs.specs.declared.token.TokenPlace.{TokenPlace}
 use Rattle.gm_defs.specs.declared.token.TokenPlace.TheVariants.{Event}
 use Rattle.gm_defs.specs.Token.{has_number}
-use Rattle.growth_laws.proofs.Pigeons.{few-below}
+use Rattle.map_laws.proofs.Pigeons.{few-below}
 use Rattle.world_defs.specs.Sound.{IsEachOnce}
 
 -- a number of two lists

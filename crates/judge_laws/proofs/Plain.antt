@@ -25,7 +25,7 @@ use Rattle.run_defs.specs.declared.line.StepWords.{StepWords}
 use Rattle.run_defs.specs.declared.line.StepWords.TheVariants.{Injected, Moved, Blocked, Arrived, Dropped, Repeated, Held, Replayed}
 use Rattle.run_defs.specs.declared.line.Line.{Line}
 use Rattle.run_defs.specs.LineText.{host_name, client_cause, said_words, heard_word, cause_word, install_cause, call_word, place_text, map_words, walk_words, step_words, words_in}
-use Rattle.line_forms.specs.declared.line.ReportLine.{ReportLine}
+use Rattle.report_lines.specs.declared.line.ReportLine.{ReportLine}
 use Rattle.fabric_file.proofs.PlainLines.{is_plain, ArePlain}
 use Rattle.fabric_file.proofs.PlainWords.{number-plain}
 use Rattle.judge_laws.specs.Lines.{Says, CallSays, MayRefuse, IsPlaceIn, AreWordsIn}

@@ -15,11 +15,11 @@ use Rattle.run_defs.specs.declared.line.Line.{Line}
 use Rattle.run_defs.specs.declared.line.Line.TheVariants.{Routes, EndRoutes, Installed, Table, Broken, EndBroken}
 use Rattle.run_defs.specs.Output.{Piece, OneLine, MapLines, lines}
 use Rattle.run_defs.specs.Run.{route_line, rank_line}
-use Rattle.line_forms.specs.declared.line.ReceivedLine.{ReceivedLine}
-use Rattle.line_forms.specs.declared.line.TokensLine.{TokensLine}
-use Rattle.line_forms.specs.declared.line.ReportLine.{ReportLine}
-use Rattle.line_forms.specs.declared.line.ReportLine.TheVariants.{Opened, Closed, Provided, Accepted, Returned, Received, NothingCame, CallRefused, Tokens}
-use Rattle.seen_laws.specs.Handed.{is_on}
+use Rattle.report_lines.specs.declared.line.ReceivedLine.{ReceivedLine}
+use Rattle.report_lines.specs.declared.line.TokensLine.{TokensLine}
+use Rattle.report_lines.specs.declared.line.ReportLine.{ReportLine}
+use Rattle.report_lines.specs.declared.line.ReportLine.TheVariants.{Opened, Closed, Provided, Accepted, Returned, Received, NothingCame, CallRefused, Tokens}
+use Rattle.client_laws.specs.Handed.{is_on}
 use Rattle.promise_laws.specs.ReceivedLines.{received_in_line, received_in, send_answer, send_answers, is_send, accepted_by_lines}
 use Rattle.answer_defs.specs.Answer.{Answer}
 use Rattle.judge_defs.specs.Form.{Known, may_answer}

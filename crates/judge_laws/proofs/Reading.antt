@@ -28,13 +28,13 @@ use Rattle.run_defs.specs.declared.line.StepWords.TheVariants.{Injected, Moved, 
 use Rattle.run_defs.specs.declared.line.Line.{Line}
 use Rattle.run_defs.specs.declared.line.Line.TheVariants.{Walk, Map, Route, Client}
 use Rattle.run_defs.specs.LineText.{host_name, turn_text, hex_text, client_cause, said_words, heard_word, cause_word, step_words, install_cause, place_text, words_in}
-use Rattle.line_forms.specs.declared.line.MapSaid.TheVariants.{Complete as SaidComplete, Doubtful as SaidDoubtful, Shallow, Overgrown}
-use Rattle.line_forms.specs.declared.line.ReportLine.{ReportLine}
-use Rattle.line_forms.specs.declared.line.ReportLine.TheVariants.{Walk as WalkSaid, Map as MapRead, CircuitNodes as NodesSaid, Routes as RoutesSaid, NoMap as NoMapSaid, Route as RouteSaid, Installed as InstalledSaid, Table as TableSaid}
-use Rattle.line_forms.specs.declared.line.ReportLine.TheVariants.{InstallRefused as InstallRefusedSaid, Closed, Provided, Accepted, Returned, CallRefused, PlanAt as PlanSaid, Step as StepSaid}
-use Rattle.line_forms.specs.declared.line.ReportLine.TheVariants.{Settle as SettleSaid, Finish as FinishSaid, Revoked as RevokedSaid, NoBroken as NoBrokenSaid}
-use Rattle.line_forms.specs.Words.{host_said, value_said}
-use Rattle.line_forms.specs.Forms.{where_so, is_only, map_at, are_counts, circuit_at, circuit_line as depth_line, are_asks, route_of, route_unless, rank_of, pull_at, plug_at, broken_at, is_install_cause, is_heard_word, is_cause_word, is_effect}
+use Rattle.report_lines.specs.declared.line.MapSaid.TheVariants.{Complete as SaidComplete, Doubtful as SaidDoubtful, Shallow, Overgrown}
+use Rattle.report_lines.specs.declared.line.ReportLine.{ReportLine}
+use Rattle.report_lines.specs.declared.line.ReportLine.TheVariants.{Walk as WalkSaid, Map as MapRead, CircuitNodes as NodesSaid, Routes as RoutesSaid, NoMap as NoMapSaid, Route as RouteSaid, Installed as InstalledSaid, Table as TableSaid}
+use Rattle.report_lines.specs.declared.line.ReportLine.TheVariants.{InstallRefused as InstallRefusedSaid, Closed, Provided, Accepted, Returned, CallRefused, PlanAt as PlanSaid, Step as StepSaid}
+use Rattle.report_lines.specs.declared.line.ReportLine.TheVariants.{Settle as SettleSaid, Finish as FinishSaid, Revoked as RevokedSaid, NoBroken as NoBrokenSaid}
+use Rattle.report_lines.specs.Words.{host_said, value_said}
+use Rattle.report_lines.specs.Forms.{where_so, is_only, map_at, are_counts, circuit_at, circuit_line as depth_line, are_asks, route_of, route_unless, rank_of, pull_at, plug_at, broken_at, is_install_cause, is_heard_word, is_cause_word, is_effect}
 use Rattle.report_lines.specs.Bytes.{bytes_said}
 use Rattle.report_lines.specs.Calls.{port_at, port_said, refused_said, at_port_said, came_from, message_of, tokens_of}
 use Rattle.report_lines.specs.Lines.{line_said}

@@ -19,8 +19,8 @@ use Rattle.run_defs.specs.Session.{SessionState}
 use Rattle.run_defs.specs.Run.{Does, IsRun}
 use Rattle.run_laws.specs.Acts.{IsActOf}
 use Rattle.run_laws.proofs.RunsOnce.{runs-more}
-use Rattle.line_forms.specs.declared.line.ReportLine.{ReportLine}
-use Rattle.line_forms.specs.declared.line.ReportLine.TheVariants.{Opened, Closed, Provided, Accepted, Returned, Received}
+use Rattle.report_lines.specs.declared.line.ReportLine.{ReportLine}
+use Rattle.report_lines.specs.declared.line.ReportLine.TheVariants.{Opened, Closed, Provided, Accepted, Returned, Received}
 use Rattle.promise_laws.specs.ReceivedLines.{AreReceivedAsSent}
 use Rattle.promise_laws.proofs.ReceivedLines.{runs-receive_as_sent}
 use Rattle.promise_laws.proofs.Said.{said-act}

@@ -6,7 +6,7 @@ use Rattle.fab_text.specs.Written.{spaced, line_text as line_of}
 use Rattle.fabric_file.specs.Reading.{AreNamed}
 use Rattle.run_defs.specs.declared.line.Line.{Line}
 use Rattle.run_defs.specs.LineText.{words_in, line_text}
-use Rattle.line_forms.specs.declared.line.ReportLine.{ReportLine}
+use Rattle.report_lines.specs.declared.line.ReportLine.{ReportLine}
 use Rattle.report_lines.specs.Lines.{line_said}
 use Rattle.fabric_file.proofs.PlainLines.{ArePlain, words-spaced, left-printed}
 use Rattle.judge_laws.specs.Lines.{Says}

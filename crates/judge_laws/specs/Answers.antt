@@ -19,12 +19,12 @@ use Rattle.run_defs.specs.declared.line.Line.TheVariants.{Routes, EndRoutes, Ins
 use Rattle.run_defs.specs.LineText.{map_text}
 use Rattle.run_defs.specs.Output.{Piece, OneLine, MapLines, lines}
 use Rattle.run_defs.specs.Run.{route_line, rank_line}
-use Rattle.line_forms.specs.declared.line.MapSaid.TheVariants.{Overgrown}
-use Rattle.line_forms.specs.declared.line.ReportLine.{ReportLine}
-use Rattle.line_forms.specs.declared.line.ReportLine.TheVariants.{Map as MapRead, Circuit as CircuitSaid}
-use Rattle.line_forms.specs.declared.line.ReportLine.TheVariants.{Routes as RoutesSaid, Installed as InstalledSaid}
-use Rattle.line_forms.specs.declared.line.ReportLine.TheVariants.{Broken as BrokenSaid, EndBroken as EndBrokenSaid}
-use Rattle.line_forms.specs.declared.line.ReportLine.TheVariants.{NoBroken as NoBrokenSaid}
+use Rattle.report_lines.specs.declared.line.MapSaid.TheVariants.{Overgrown}
+use Rattle.report_lines.specs.declared.line.ReportLine.{ReportLine}
+use Rattle.report_lines.specs.declared.line.ReportLine.TheVariants.{Map as MapRead, Circuit as CircuitSaid}
+use Rattle.report_lines.specs.declared.line.ReportLine.TheVariants.{Routes as RoutesSaid, Installed as InstalledSaid}
+use Rattle.report_lines.specs.declared.line.ReportLine.TheVariants.{Broken as BrokenSaid, EndBroken as EndBrokenSaid}
+use Rattle.report_lines.specs.declared.line.ReportLine.TheVariants.{NoBroken as NoBrokenSaid}
 use Rattle.map_canon.specs.Reading.{map_reading}
 use Rattle.answer_defs.specs.Answer.{Answer, Alone, WithMap, WithRoutes, WithTables, WithBroken}
 use Rattle.judge_defs.specs.Form.{Known, may_answer, vertex_told, is_rank_above, is_pair_above}

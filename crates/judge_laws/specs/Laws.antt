@@ -7,7 +7,7 @@ use Rattle.run_defs.specs.declared.command.Command.{Command}
 use Rattle.run_defs.specs.declared.line.Line.{Line}
 use Rattle.run_defs.specs.LineText.{words_in, line_text, output_text}
 use Rattle.run_defs.specs.Output.{Piece}
-use Rattle.line_forms.specs.declared.line.ReportLine.{ReportLine}
+use Rattle.report_lines.specs.declared.line.ReportLine.{ReportLine}
 use Rattle.report_lines.specs.Lines.{line_said}
 use Rattle.answer_defs.specs.Answer.{Answer}
 use Rattle.judge_defs.specs.Form.{Known, answer_from}

@@ -36,24 +36,24 @@ use Rattle.run_defs.specs.declared.line.Line.TheVariants.{Rank, EndRoutes, NoMap
 use Rattle.run_defs.specs.declared.line.Line.TheVariants.{Client, Tokens, PlanAt, Step, Settle, Finish, Pull, Plug}
 use Rattle.run_defs.specs.declared.line.Line.TheVariants.{Revoked, Broken, EndBroken, NoBroken}
 use Rattle.run_defs.specs.LineText.{host_name}
-use Rattle.line_forms.specs.declared.line.MapSaid.{MapSaid}
-use Rattle.line_forms.specs.declared.line.MapSaid.TheVariants.{Complete as SaidComplete, Doubtful as SaidDoubtful}
-use Rattle.line_forms.specs.declared.line.MapSaid.TheVariants.{Shallow, Overgrown}
-use Rattle.line_forms.specs.declared.line.ReportLine.{ReportLine}
-use Rattle.line_forms.specs.declared.line.ReportLine.TheVariants.{Walk as WalkSaid, Map as MapRead, MapBusy as BusySaid}
-use Rattle.line_forms.specs.declared.line.ReportLine.TheVariants.{Circuit as CircuitSaid, CircuitNodes as NodesSaid}
-use Rattle.line_forms.specs.declared.line.ReportLine.TheVariants.{Routes as RoutesSaid, NoMap as NoMapSaid}
-use Rattle.line_forms.specs.declared.line.ReportLine.TheVariants.{Route as RouteSaid, Rank as RankSaid}
-use Rattle.line_forms.specs.declared.line.ReportLine.TheVariants.{EndRoutes as EndRoutesSaid}
-use Rattle.line_forms.specs.declared.line.ReportLine.TheVariants.{Installed as InstalledSaid, Table as TableSaid}
-use Rattle.line_forms.specs.declared.line.ReportLine.TheVariants.{InstallRefused as InstallRefusedSaid, Opened, Closed}
-use Rattle.line_forms.specs.declared.line.ReportLine.TheVariants.{Provided, Accepted, Returned, Received, NothingCame}
-use Rattle.line_forms.specs.declared.line.ReportLine.TheVariants.{CallRefused, Tokens as TokensSaid}
-use Rattle.line_forms.specs.declared.line.ReportLine.TheVariants.{PlanAt as PlanSaid, Step as StepSaid}
-use Rattle.line_forms.specs.declared.line.ReportLine.TheVariants.{Settle as SettleSaid, Finish as FinishSaid}
-use Rattle.line_forms.specs.declared.line.ReportLine.TheVariants.{Pull as PullSaid, Plug as PlugSaid}
-use Rattle.line_forms.specs.declared.line.ReportLine.TheVariants.{Revoked as RevokedSaid, Broken as BrokenSaid}
-use Rattle.line_forms.specs.declared.line.ReportLine.TheVariants.{EndBroken as EndBrokenSaid, NoBroken as NoBrokenSaid}
+use Rattle.report_lines.specs.declared.line.MapSaid.{MapSaid}
+use Rattle.report_lines.specs.declared.line.MapSaid.TheVariants.{Complete as SaidComplete, Doubtful as SaidDoubtful}
+use Rattle.report_lines.specs.declared.line.MapSaid.TheVariants.{Shallow, Overgrown}
+use Rattle.report_lines.specs.declared.line.ReportLine.{ReportLine}
+use Rattle.report_lines.specs.declared.line.ReportLine.TheVariants.{Walk as WalkSaid, Map as MapRead, MapBusy as BusySaid}
+use Rattle.report_lines.specs.declared.line.ReportLine.TheVariants.{Circuit as CircuitSaid, CircuitNodes as NodesSaid}
+use Rattle.report_lines.specs.declared.line.ReportLine.TheVariants.{Routes as RoutesSaid, NoMap as NoMapSaid}
+use Rattle.report_lines.specs.declared.line.ReportLine.TheVariants.{Route as RouteSaid, Rank as RankSaid}
+use Rattle.report_lines.specs.declared.line.ReportLine.TheVariants.{EndRoutes as EndRoutesSaid}
+use Rattle.report_lines.specs.declared.line.ReportLine.TheVariants.{Installed as InstalledSaid, Table as TableSaid}
+use Rattle.report_lines.specs.declared.line.ReportLine.TheVariants.{InstallRefused as InstallRefusedSaid, Opened, Closed}
+use Rattle.report_lines.specs.declared.line.ReportLine.TheVariants.{Provided, Accepted, Returned, Received, NothingCame}
+use Rattle.report_lines.specs.declared.line.ReportLine.TheVariants.{CallRefused, Tokens as TokensSaid}
+use Rattle.report_lines.specs.declared.line.ReportLine.TheVariants.{PlanAt as PlanSaid, Step as StepSaid}
+use Rattle.report_lines.specs.declared.line.ReportLine.TheVariants.{Settle as SettleSaid, Finish as FinishSaid}
+use Rattle.report_lines.specs.declared.line.ReportLine.TheVariants.{Pull as PullSaid, Plug as PlugSaid}
+use Rattle.report_lines.specs.declared.line.ReportLine.TheVariants.{Revoked as RevokedSaid, Broken as BrokenSaid}
+use Rattle.report_lines.specs.declared.line.ReportLine.TheVariants.{EndBroken as EndBrokenSaid, NoBroken as NoBrokenSaid}
 
 -- a number of 64 bits
 abbrev pub IsCounted : ℕ → Type 0

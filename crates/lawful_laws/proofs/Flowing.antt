@@ -34,13 +34,13 @@ use Rattle.world_laws.specs.Reached.{IsOfDrain}
 use Rattle.world_laws.proofs.Along.{Along, drain-along}
 use Rattle.world_laws.proofs.Draining.{advance-links, drain-still}
 use Rattle.world_laws.proofs.Resets.{no_resets-idle}
-use Rattle.act_defs.specs.Acts.{Act, Happens, acted, acted_all, MayAct, MayActAll, IsReached}
+use Rattle.world_defs.specs.Acts.{Act, Happens, acted, acted_all, MayAct, MayActAll, IsReached}
 use Rattle.net_defs.specs.RouteSet.{channels_of_all}
 use Rattle.table_laws.proofs.Dependencies.{rise-all, routes-rise, adopted-adoptable}
 use Rattle.lawful_laws.specs.Lawful.{AdvanceKeepsLawful}
 use Rattle.lawful_laws.specs.Stuck.{LawfulIsNotStuck, LawfulDrainsIdle, LawfulNeedsNoReset}
 use Rattle.world_defs.proofs.Kept.{step-cables}
-use Rattle.act_defs.proofs.Cables.{reached-cables}
+use Rattle.world_defs.proofs.Cables.{reached-cables}
 use Rattle.lawful_laws.proofs.Ahead.{goes_on, ahead, ahead-next, next-stands, message-old, unmet-old, IsLedBy, led-next}
 use Rattle.lawful_laws.proofs.Stands.{packet-stands}
 use Rattle.lawful_laws.proofs.Stuck.{RisesAlong, RisesOver, led-flows}

@@ -16,10 +16,10 @@ use Rattle.world_defs.specs.Table.{Adoption, epoch_in, at_in, whole_table}
 use Rattle.world_defs.specs.Node.{NodeState, Staged, StagedProbe, StagedPart, StagedAck, new_node}
 use Rattle.world_defs.specs.World.{WorldState, new_world, node_at, epoch_of, standing_of, keeps_epoch, adoption_of, adopted_by}
 use Rattle.world_defs.specs.Traffic.{routes_in, adopted_routes, ahead_by, MeetsNoNewCable, IsLawful}
-use Rattle.act_defs.specs.Acts.{Act, Happens, Plans, Adopts, acted, acted_all, MayAct, MayActAll, IsReached}
-use Rattle.act_defs.proofs.Epochs.{Adopting, adopting}
-use Rattle.act_defs.proofs.Cables.{HasCables, new-cables, cables-kept, reached-cables}
-use Rattle.act_defs.proofs.Kept.{acted-kept}
+use Rattle.world_defs.specs.Acts.{Act, Happens, Plans, Adopts, acted, acted_all, MayAct, MayActAll, IsReached}
+use Rattle.world_defs.proofs.AdoptedEpochs.{Adopting, adopting}
+use Rattle.world_defs.proofs.Cables.{HasCables, new-cables, cables-kept, reached-cables}
+use Rattle.world_defs.proofs.ActsKept.{acted-kept}
 use Rattle.table_laws.proofs.Medium.{weaker-holds, empty-holds}
 use Rattle.table_laws.proofs.Keeping.{accepted-holds}
 use Rattle.world_defs.proofs.Kept.{with-all}

@@ -15,8 +15,8 @@ use Rattle.packet_defs.specs.Packet.{packet_of}
 use Rattle.link_defs.specs.Links.{Held}
 use Rattle.gm_defs.specs.declared.frame.FrameHead.{FrameHead}
 use Rattle.gm_defs.specs.Body.{frame_bytes, ack_bytes}
-use Rattle.mapping_defs.specs.Mapping.{RoutePart, MappingBody, is_route, is_mapping, decode_mapping, mapping_bytes}
-use Rattle.mapping_defs.specs.Mapping.MappingBody.{HostProbe, HostReply, Loopback, Part, PartAck}
+use Rattle.mapper_bodies.specs.Mapping.{RoutePart, MappingBody, is_route, is_mapping, decode_mapping, mapping_bytes}
+use Rattle.mapper_bodies.specs.Mapping.MappingBody.{HostProbe, HostReply, Loopback, Part, PartAck}
 use Rattle.world_defs.specs.Table.{table_route}
 use Rattle.world_defs.specs.Node.{NodeState, Staged, StagedReply, StagedAck, StagedProbe, StagedPart, Outgoing, Probe, TablePart, Reply, PartAnswer, FrameAnswer, Fragment, is_message, peer_of, takes_from, lane_at, lane_route, way_back, outgoing_staged, owed_on, due_on, due_frame, either, first_some, lanes_of, to_send, packet_for}
 use Rattle.table_laws.specs.Set.{IsFitPart}

@@ -19,7 +19,7 @@ use Rattle.world_defs.specs.Log.{Log, told, and_do, up_to}
 use Rattle.world_defs.specs.Logs.{Moved, Rounds, drain, clear, unmoved, moved_both, cleared, replays, is_last_pass, round_pass, round_passes, round, rounds_both, one_round, settle}
 use Rattle.world_defs.specs.Row.{IsRow}
 use Rattle.world_defs.proofs.LogRows.{steps-after, all-map, row-none, row-both, clear-row, round-row, byte_clears, byte_settles}
-use Rattle.act_defs.specs.Acts.{IsReached}
+use Rattle.world_defs.specs.Acts.{IsReached}
 use Rattle.lawful_laws.specs.Resets.{BeginsLawful, OnlyUnlawfulIsReset}
 use Rattle.lawful_laws.proofs.Flowing.{advance-lawful, reset-lawful, event-reached, lawful-clears}
 

@@ -29,8 +29,8 @@ use Rattle.world_defs.specs.Step.{planned_strikes, sent_out, step}
 use Rattle.world_defs.proofs.Views.{LinksChange, Change, view}
 use Rattle.world_defs.proofs.Strikes.{fault_step, Strike, strike_view}
 use Rattle.world_defs.proofs.Kept.{planned_one}
-use Rattle.act_defs.specs.Acts.{Act, Happens, Plans, Adopts, acted, MayAct, IsReached}
-use Rattle.act_defs.proofs.Reaching.{reached-has}
+use Rattle.world_defs.specs.Acts.{Act, Happens, Plans, Adopts, acted, MayAct, IsReached}
+use Rattle.world_defs.proofs.Reaching.{reached-has}
 use Rattle.table_laws.specs.Packets.{IsGoodStep}
 use Rattle.table_laws.proofs.Medium.{Holds, Carries, stepped-holds, empty-holds}
 use Rattle.table_laws.proofs.Dependencies.{reached-of}

@@ -14,7 +14,7 @@ use Rattle.cable_history.specs.Crossed.{leaving, channels_by, channels_at, life_
 use Rattle.cable_history.proofs.Fewer.{fewer_front}
 use Rattle.cable_history.proofs.Pulled.{left_stood}
 use Rattle.cable_history.proofs.ForLife.{leaving_has_its_end}
-use Rattle.mapping_defs.specs.Mapping.{RouteEntry, RoutePart}
+use Rattle.mapper_bodies.specs.Mapping.{RouteEntry, RoutePart}
 use Rattle.gm_defs.proofs.Choices.{both, map-some, then-some}
 use Rattle.world_defs.specs.Table.{Adoption, ActiveTable, TableState, entries_from, part_count, part_with, part_for, route_of, table_route}
 use Rattle.world_defs.specs.Traffic.{routes_in}

@@ -10,7 +10,7 @@ use Rattle.world_defs.specs.Node.{to_send, packet_for, after_sending}
 use Rattle.world_defs.specs.Client.{begun, sent_by}
 use Rattle.world_defs.specs.Step.{asked, planned_strikes, sent_out, injected, advanced}
 use Rattle.world_defs.specs.Traffic.{IsLawful}
-use Rattle.act_defs.specs.Acts.{AreAdoptable}
+use Rattle.world_defs.specs.Acts.{AreAdoptable}
 use Rattle.table_laws.specs.Examples.{adopted_world}
 use Rattle.table_laws.proofs.Dependencies.{adopted-adoptable}
 use Rattle.table_laws.proofs.TwoHosts.{adopted-reached}

@@ -34,17 +34,17 @@ use Rattle.table_laws.specs.Packets.{IsHonest}
 use Rattle.table_laws.specs.Bodies.{IsBody}
 use Rattle.table_laws.proofs.Sets.{RouteFits, routes-fit, part_for-fits}
 use Rattle.lawful_laws.specs.Probes.{IsWalkEvent}
-use Rattle.act_defs.proofs.Cables.{HasCables}
+use Rattle.world_defs.proofs.Cables.{HasCables}
 use Rattle.lawful_laws.proofs.Ahead.{goes_on, host-near, next-stands, message-old, led-next, led-pull, led-plug}
 use Rattle.lawful_laws.proofs.Stands.{Stands, step-stands}
 use Rattle.lawful_laws.proofs.Walks.{Era, IsWalkFrom, route_of-walk, part-back, table-walk}
 use Rattle.lawful_laws.proofs.Sends.{HasWayBack, IsProbeBody, IsWay, IsOnWay, IsSent, IsOwn, to_send-out, packet-on_way}
 use Rattle.lawful_laws.proofs.Hears.{hear-own}
 use Rattle.world_defs.specs.Step.{step}
-use Rattle.act_defs.specs.Acts.{Happens}
+use Rattle.world_defs.specs.Acts.{Happens}
 use Rattle.world_defs.proofs.Views.{HostChange, Change, view}
 use Rattle.world_defs.proofs.Calls.{call_view}
-use Rattle.act_defs.proofs.Hosts.{NodeChange, change-nodes, each_node}
+use Rattle.world_defs.proofs.Hosts.{NodeChange, change-nodes, each_node}
 use Rattle.world_defs.proofs.Kept.{change-later, change-adopted, change-plan}
 use Rattle.table_laws.proofs.Medium.{Holds, Carries, weaker-holds, no_turn, honest-read}
 use Rattle.table_laws.proofs.Keeping.{HoldsOfNew, acted-holds}

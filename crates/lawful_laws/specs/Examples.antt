@@ -13,7 +13,7 @@ use Rattle.world_defs.specs.World.{WorldState, new_world}
 use Rattle.world_defs.specs.Step.{after_all}
 use Rattle.world_defs.specs.Traffic.{IsLawfulTraffic, channels_ahead}
 use Rattle.world_defs.specs.Examples.{setup_routes}
-use Rattle.act_defs.specs.Acts.{Act, Happens, Adopts, acted_all, IsReached}
+use Rattle.world_defs.specs.Acts.{Act, Happens, Adopts, acted_all, IsReached}
 use Rattle.lawful_laws.specs.Resets.{ClearsBeginLawful}
 
 -- host 0 of the two at one switch adopts the routes, and injects a frame for host 1

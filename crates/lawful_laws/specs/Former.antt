@@ -5,8 +5,8 @@ use Rattle.packet_defs.specs.declared.kind.Kind.TheVariants.{Mapping}
 use Rattle.packet_defs.specs.Packet.{packet_of}
 use Rattle.cable_history.specs.History.{was_plugged}
 use Rattle.link_defs.specs.Links.{Held}
-use Rattle.mapping_defs.specs.Mapping.{MappingBody, mapping_bytes}
-use Rattle.mapping_defs.specs.Mapping.MappingBody.{Part, PartAck}
+use Rattle.mapper_bodies.specs.Mapping.{MappingBody, mapping_bytes}
+use Rattle.mapper_bodies.specs.Mapping.MappingBody.{Part, PartAck}
 use Rattle.world_defs.specs.World.{WorldState, epoch_of}
 
 -- a part, or the acknowledgement of one

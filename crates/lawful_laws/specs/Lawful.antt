@@ -7,7 +7,7 @@ use Rattle.world_defs.specs.declared.event.Event.TheVariants.{Advance}
 use Rattle.world_defs.specs.World.{WorldState}
 use Rattle.world_defs.specs.Step.{step}
 use Rattle.world_defs.specs.Traffic.{IsLawful, IsLawfulTraffic}
-use Rattle.act_defs.specs.Acts.{IsReached}
+use Rattle.world_defs.specs.Acts.{IsReached}
 use Rattle.lawful_laws.specs.Probes.{IsProbe, IsReadAsProbe, IsWalkAct}
 use Rattle.lawful_laws.specs.Former.{IsExcused}
 

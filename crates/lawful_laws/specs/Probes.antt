@@ -7,11 +7,11 @@ use Rattle.packet_defs.specs.declared.kind.Kind.TheVariants.{Mapping, Gm}
 use Rattle.packet_defs.specs.Packet.{packet_of}
 use Rattle.packet_defs.specs.Host.{body_of}
 use Rattle.link_defs.specs.Kinds.{unrouted}
-use Rattle.mapping_defs.specs.Mapping.{MappingBody, mapping_bytes, is_route, is_mapping, decode_mapping}
-use Rattle.mapping_defs.specs.Mapping.MappingBody.{HostProbe, HostReply, Loopback, Part, PartAck}
+use Rattle.mapper_bodies.specs.Mapping.{MappingBody, mapping_bytes, is_route, is_mapping, decode_mapping}
+use Rattle.mapper_bodies.specs.Mapping.MappingBody.{HostProbe, HostReply, Loopback, Part, PartAck}
 use Rattle.world_defs.specs.declared.event.Event.{Event}
 use Rattle.world_defs.specs.declared.event.Event.TheVariants.{Ask}
-use Rattle.act_defs.specs.Acts.{Act, Happens}
+use Rattle.world_defs.specs.Acts.{Act, Happens}
 
 -- a host probe, a loopback probe and a probe reply are probes; a part and a part's acknowledgement aren't
 abbrev pub is_probe : MappingBody → Bool

@@ -7,7 +7,7 @@ use Rattle.world_defs.specs.Step.{step}
 use Rattle.world_defs.specs.Traffic.{IsLawfulTraffic}
 use Rattle.world_laws.specs.Reached.{IsOfClear}
 use Rattle.world_defs.specs.Logs.{settle}
-use Rattle.act_defs.specs.Acts.{IsReached}
+use Rattle.world_defs.specs.Acts.{IsReached}
 
 -- before each of these events that is an advance or a reset and follows neither the traffic is lawful; `came` says that
 -- one of them came just before the first

@@ -7,7 +7,7 @@ use Rattle.link_defs.specs.Hops.{is_stuck}
 use Rattle.world_defs.specs.World.{WorldState}
 use Rattle.world_defs.specs.Traffic.{IsLawfulTraffic}
 use Rattle.world_defs.specs.Logs.{drain, clear}
-use Rattle.act_defs.specs.Acts.{IsReached}
+use Rattle.world_defs.specs.Acts.{IsReached}
 
 -- links of lawful traffic aren't stuck
 abbrev pub LawfulIsNotStuck : Type 0

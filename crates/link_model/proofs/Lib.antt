@@ -6,3 +6,6 @@ pub mod Runs
 pub mod Stepping
 pub mod Turning
 pub mod TypeBytes
+pub mod SlotCables
+pub mod Counting
+pub mod Fullness

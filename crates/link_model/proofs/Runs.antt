@@ -18,8 +18,8 @@ use Rattle.link_defs.specs.Advance.{course, entered, gone_on, advance_of, advanc
 use Rattle.link_defs.specs.Hops.{hops_left}
 use Rattle.link_defs.proofs.HopsLeft.{hops_left-stripped, course_into-enters}
 use Rattle.link_defs.proofs.Slots.{set-same}
-use Rattle.channel_slots.specs.Full.{IsLone}
-use Rattle.channel_slots.proofs.Counting.{set-set, set-back}
+use Rattle.link_model.specs.FullSlots.{IsLone}
+use Rattle.link_model.proofs.Counting.{set-set, set-back}
 use Rattle.link_model.specs.Hop.{IsSentAlong, IsRun}
 use Rattle.link_model.proofs.Stepping.{course-below, enters-now, written-links}
 

@@ -24,7 +24,7 @@ use Rattle.cable_history.proofs.ForLife.{leaving_has_its_end}
 use Rattle.link_defs.specs.declared.moved.Why.TheVariants.{NewCable}
 use Rattle.link_defs.specs.declared.moved.Course.TheVariants.{Drops}
 use Rattle.link_defs.specs.Kinds.{is_mapping}
-use Rattle.channel_slots.proofs.Counting.{set-there}
+use Rattle.link_model.proofs.Counting.{set-there}
 
 by_channel : (h : CableHistory) (wire : List ℕ) (e : End) (next : ℕ) (o : Option ℕ) → leaving h e ≡ o → course_by_channel h wire o ≡ Enters next → next < life_channels h
 by_channel h wire e next None is to = cc

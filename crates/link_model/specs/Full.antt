@@ -1,7 +1,7 @@
 -- Which channels of the links are full.
 use Rattle.std.specs.Prelude.{◌≡◌, ℕ, ◌<◌, ◌≤◌, length, Option, None, true, is_some}
 use Rattle.link_defs.specs.Links.{LinkState, packet_in}
-use Rattle.channel_slots.specs.Full.{full_from}
+use Rattle.link_model.specs.FullSlots.{full_from}
 
 -- the least channel that isn't below a number and holds a packet
 abbrev pub next_full : LinkState → ℕ → Option ℕ

@@ -13,14 +13,14 @@ ghost use Rattle.link_defs.specs.Kinds.{is_mapping, is_of_mapping, kind_in};
 ghost use Rattle.link_defs.specs.Advance.{course, course_out, course_by_channel};
 ghost use Rattle.link_model.specs.Hop.{IsSentOn, IsSentAlong, entered_by, passing};
 
+use crate::Slot;
 use crate::hop::Run;
-use channel_slots::Slot;
 use crossbar::{aim_by, turn};
 use fabric_wiring::Wiring;
 use link_defs::{Course, Turned, Why};
 use myri_packet::Packet;
 use net_defs::Vertex;
-use turn_bytes::is_route_byte;
+use packet_defs::is_route_byte;
 
 // The type number of packets of mapping.
 const MAPPING: u16 = 5;

@@ -5,7 +5,7 @@ ghost use Rattle.std.specs.List.{AllByRecursion};
 ghost use Rattle.std.specs.Map.{lookup, remove_entry};
 ghost use Rattle.link_defs.specs.Fault.{without_cable};
 
-use channel_slots::Slot;
+use crate::Slot;
 use std::alloc::Global;
 use std::collections::BTreeMap;
 use std::marker::Model;

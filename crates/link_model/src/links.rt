@@ -7,7 +7,7 @@ ghost use Rattle.cable_history.specs.History.{fabric_now, IsHistory};
 ghost use Rattle.cable_history.specs.Crossed.{leaving, life_channels, life_tail, life_head};
 ghost use Rattle.link_defs.specs.Links.{empty_links, packet_in, is_idle, put};
 ghost use Rattle.link_defs.specs.Fault.{next_limbo};
-ghost use Rattle.channel_slots.specs.Full.{full_count, IsLone};
+ghost use Rattle.link_model.specs.FullSlots.{full_count, IsLone};
 ghost use Rattle.link_model.specs.Full.{next_full, IsNextFull};
 
 mod advance;
@@ -15,7 +15,7 @@ mod cables;
 mod faults;
 
 use crate::limbo::Limbo;
-use channel_slots::{Slot, Slots};
+use crate::{Slot, Slots};
 use fabric_wiring::Wiring;
 use myri_packet::Packet;
 use net_defs::End;

@@ -18,8 +18,8 @@ use Rattle.journal_defs.proofs.Standing.{node-stands, host-stands, stand, same_e
 use Rattle.map_defs.specs.NetMap.{NetMap, IsCabled, host_of_vertex}
 use Rattle.map_defs.specs.Quotient.{IsQuotient}
 use Rattle.map_defs.specs.Sameness.{IsMapOfPart, Joined, address_of}
-use Rattle.growth_laws.proofs.Truly.{true-where, node-host, node-switch}
-use Rattle.growth_laws.proofs.Closing.{in-part}
+use Rattle.map_laws.proofs.Truly.{true-where, node-host, node-switch}
+use Rattle.map_laws.proofs.Closing.{in-part}
 use Rattle.map_laws.specs.Certificate.{ClosedMapIsRight}
 use Rattle.map_laws.proofs.Rooted.{IsRooted, grown-rooted}
 use Rattle.map_laws.proofs.OneClass.{HasWays, closed-ways, cross, covered, one_class}

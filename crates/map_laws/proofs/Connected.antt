@@ -13,9 +13,9 @@ use Rattle.map_defs.specs.declared.vertex.MapCable.{MapCable}
 use Rattle.map_defs.specs.NetMap.{NetMap, MapPort, IsCabled, IsReached, IsConnected, map_edges}
 use Rattle.map_defs.specs.NetMap.IsCabled.{forth, back}
 use Rattle.map_defs.specs.Quotient.{IsQuotient, IsOfVertex}
-use Rattle.growth_laws.proofs.Asks.{HasTree, growing-tree, ByLast, by_last, push-length, switch-node}
-use Rattle.growth_laws.proofs.Asks.ByLast.{empty, pushed}
-use Rattle.growth_laws.proofs.Truly.{node-asked}
+use Rattle.map_laws.proofs.Asks.{HasTree, growing-tree, ByLast, by_last, push-length, switch-node}
+use Rattle.map_laws.proofs.Asks.ByLast.{empty, pushed}
+use Rattle.map_laws.proofs.Truly.{node-asked}
 use Rattle.map_laws.specs.Certificate.{QuotientIsConnected}
 use Rattle.map_laws.proofs.Least.{below-get, get-below, below-vertex}
 

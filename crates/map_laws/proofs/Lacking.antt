@@ -18,7 +18,7 @@ use Rattle.net_defs.proofs.TwoHosts.{two_hosts_fabric}
 use Rattle.map_defs.specs.NetMap.{NetMap, host_of_vertex}
 use Rattle.map_defs.specs.Quotient.{IsQuotient}
 use Rattle.map_defs.specs.Sameness.{IsMapOfPart, address_of}
-use Rattle.growth_laws.proofs.Truly.{true-where}
+use Rattle.map_laws.proofs.Truly.{true-where}
 use Rattle.map_laws.specs.Examples.{lone_map, unexpanded, stub_map}
 use Rattle.map_laws.proofs.TwoNodes.{IsOneOf, IsShort, short_quotient}
 

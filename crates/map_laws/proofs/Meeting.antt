@@ -22,8 +22,8 @@ use Rattle.map_defs.specs.Routing.{turned_to, next_port, is_host_named, vertex_o
 use Rattle.map_defs.specs.Sameness.{IsMapOfPart, Joined, address_of}
 use Rattle.map_defs.proofs.Leading.{far-end}
 use Rattle.map_defs.proofs.Ports.{far_is_cabled}
-use Rattle.growth_laws.proofs.Truly.{port-there}
-use Rattle.growth_laws.proofs.Crossing.{exit-is}
+use Rattle.map_laws.proofs.Truly.{port-there}
+use Rattle.map_laws.proofs.Crossing.{exit-is}
 use Rattle.map_laws.specs.Leading.{HasHost}
 use Rattle.map_laws.proofs.Assembly.{joined-ports, joined-moved}
 use Rattle.map_laws.proofs.Size.{address-host}

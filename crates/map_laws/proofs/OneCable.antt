@@ -16,8 +16,8 @@ use Rattle.journal_defs.specs.Examples.{one_cable_journal}
 use Rattle.map_defs.specs.NetMap.{MapPort, IsCabled}
 use Rattle.map_defs.specs.NetMap.IsCabled.{forth, back}
 use Rattle.map_defs.specs.Quotient.{IsQuotient, IsLeastNode, HasVertex}
-use Rattle.growth_laws.proofs.Shallow.{one_cable_fabric, one_cable_true, one_cable_no_switch}
-use Rattle.growth_laws.proofs.Truly.{true-where}
+use Rattle.map_laws.proofs.Shallow.{one_cable_fabric, one_cable_true, one_cable_no_switch}
+use Rattle.map_laws.proofs.Truly.{true-where}
 use Rattle.map_laws.specs.Examples.{one_cable_map, lost_probe, lone_map}
 use Rattle.map_laws.proofs.TwoNodes.{IsOneOf, IsShort, short_quotient}
 

@@ -14,8 +14,8 @@ use Rattle.journal_defs.specs.Part.{Path}
 use Rattle.journal_defs.specs.Part.Path.{here, over as by_cable}
 use Rattle.net_defs.proofs.Cabling.{far-back}
 use Rattle.journal_defs.proofs.Standing.{leads-to}
-use Rattle.growth_laws.proofs.Truly.{node-switch}
-use Rattle.growth_laws.proofs.Full.{AreOne, Step, host-member, expanded-member, over-member, before-cable, two-hosts}
+use Rattle.map_laws.proofs.Truly.{node-switch}
+use Rattle.map_laws.proofs.Full.{AreOne, Step, host-member, expanded-member, over-member, before-cable, two-hosts}
 use Rattle.map_laws.proofs.Rooted.{IsRooted}
 
 -- Which nodes lead over all cables where they stand: hosts, and those whose class has an expanded member.

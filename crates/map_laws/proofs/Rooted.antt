@@ -4,8 +4,8 @@ use Rattle.std.specs.Prelude.{ℕ}
 use Rattle.journal_defs.specs.declared.entry.Entry.{Entry}
 use Rattle.journal_defs.specs.Tree.{is_asked, nodes}
 use Rattle.journal_defs.specs.Growth.{IsGrown, IsEndedByDepth, IsEndedAtLimit, node_limit}
-use Rattle.growth_laws.proofs.Asks.{HasTree, growing-tree}
-use Rattle.growth_laws.proofs.Near.{starts}
+use Rattle.map_laws.proofs.Asks.{HasTree, growing-tree}
+use Rattle.map_laws.proofs.Near.{starts}
 
 -- The empty walk is asked, and what stands before an asked turn is a switch node.
 pub record IsRooted (j : List Entry) : Type 0 where

@@ -21,8 +21,8 @@ use Rattle.map_defs.specs.declared.vertex.MapCable.{MapCable}
 use Rattle.map_defs.specs.NetMap.{NetMap, MapPort, IsMap, IsCabled, IsNearPort, AreNearPorts, first_end, second_end, map_ends, host_of_vertex, switches_of}
 use Rattle.map_defs.specs.NetMap.IsCabled.{forth, back}
 use Rattle.map_defs.specs.Quotient.{IsQuotient}
-use Rattle.growth_laws.proofs.Truly.{port-there}
-use Rattle.growth_laws.proofs.Crossing.{below-ports}
+use Rattle.map_laws.proofs.Truly.{port-there}
+use Rattle.map_laws.proofs.Crossing.{below-ports}
 use Rattle.map_laws.specs.Certificate.{QuotientIsMap}
 use Rattle.map_laws.proofs.Least.{vertex-below, below-vertex, vertex-host, class-one, below-get, get-map}
 use Rattle.map_laws.proofs.Listed.{host-below, hosts-apart, ports-apart, all-ends, near-ports, switches-numbered}

@@ -13,7 +13,7 @@ use Rattle.map_defs.specs.declared.vertex.MapVertex.TheVariants.{Host as MapHost
 use Rattle.map_defs.specs.NetMap.{NetMap, host_at, switch_at, host_of_vertex, is_switch_vertex, hosts_of, switches_of}
 use Rattle.map_defs.specs.Sameness.{IsMapOfPart, address_of}
 use Rattle.map_defs.proofs.Levels.{switch-there}
-use Rattle.growth_laws.proofs.Pigeons.{few-below}
+use Rattle.map_laws.proofs.Pigeons.{few-below}
 use Rattle.map_laws.specs.Certificate.{IsNoLarger, RightMapIsNoLarger}
 use Rattle.map_laws.proofs.Listed.{host-below, hosts-apart, member-host}
 

@@ -19,7 +19,7 @@ use Rattle.map_defs.proofs.Moved.{moved_is_same}
 use Rattle.map_defs.proofs.Places.{places_are_an_order}
 use Rattle.map_defs.proofs.Sameness.{same-back, same_map_is_right}
 use Rattle.map_defs.proofs.TwoHosts.{two_hosts_quotient}
-use Rattle.growth_laws.proofs.Truly.{true-where}
+use Rattle.map_laws.proofs.Truly.{true-where}
 use Rattle.map_laws.specs.Leading.{HasHost, AreFromHosts, channels_in_fabric}
 use Rattle.map_laws.specs.RouteSets.{AreRightRoutes}
 use Rattle.map_laws.specs.Examples.{two_hosts_routes, two_hosts_ranks}

@@ -18,7 +18,7 @@ use Rattle.map_defs.specs.NetMap.IsCabled.{forth, back}
 use Rattle.map_defs.specs.Quotient.{IsQuotient, IsLeastNode, IsOfVertex, HasVertex, IsLed, named}
 use Rattle.map_defs.specs.Examples.{cable, port}
 use Rattle.map_defs.proofs.TwoHosts.{itself_not_below}
-use Rattle.growth_laws.proofs.Asks.{not_empty}
+use Rattle.map_laws.proofs.Asks.{not_empty}
 
 -- a node is one of two
 abbrev pub IsOneOf : Node → Type 0

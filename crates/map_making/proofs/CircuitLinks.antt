@@ -4,8 +4,8 @@ use Rattle.std.proofs.lemmas.Bool.Decides.{nat_tests}
 use Rattle.net_defs.specs.Network.{Network, IsFabric}
 use Rattle.map_defs.specs.NetMap.{NetMap}
 use Rattle.probe.specs.Drowning.{OverFabric}
-use Rattle.circ_class_laws.proofs.Telling.{circuit-true}
-use Rattle.circ_map_laws.proofs.Ruled.{kept-host}
+use Rattle.circ_laws.proofs.Telling.{circuit-true}
+use Rattle.circ_laws.proofs.Ruled.{kept-host}
 use Rattle.circ_map.specs.declared.mapping.CircMapped.{CircMapped}
 use Rattle.circ_map.specs.declared.mapping.CircEnd.{CircEnd}
 use Rattle.circ_map.specs.declared.mapping.CircEnd.TheVariants.{Whole, Nodes}

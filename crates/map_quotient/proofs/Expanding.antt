@@ -13,8 +13,8 @@ use Rattle.journal_defs.specs.Growth.{HasExpanded, IsClosed}
 use Rattle.net_defs.proofs.Turns.{same_turns-true}
 use Rattle.journal_defs.proofs.Standing.{replicates-nodes}
 use Rattle.probe.proofs.Indexing.{answered-at}
-use Rattle.class_joins.specs.Table.{ClassTable, StandsFor}
-use Rattle.class_joins.proofs.Nodes.{node-at}
+use Rattle.replicate_merge.specs.Table.{ClassTable, StandsFor}
+use Rattle.replicate_merge.proofs.Nodes.{node-at}
 use Rattle.map_quotient.proofs.Places.{one-there, get-less}
 
 -- the entry of an answered walk

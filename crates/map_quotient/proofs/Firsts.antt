@@ -8,9 +8,9 @@ use Rattle.std.proofs.lemmas.Option.{get_or_from_slice_get, slice_get-get_or}
 use Rattle.net_defs.specs.Network.{Apart}
 use Rattle.journal_defs.specs.Tree.{node_below}
 use Rattle.port_align.specs.declared.frame.ClassFrame.{ClassFrame}
-use Rattle.class_joins.specs.Table.{ClassTable}
-use Rattle.class_joins.specs.Ways.{node_at, frame_at, own_frame}
-use Rattle.class_joins.proofs.Nodes.{node_below-irrefl, node_below-total, apart-once}
+use Rattle.replicate_merge.specs.Table.{ClassTable}
+use Rattle.replicate_merge.specs.Ways.{node_at, frame_at, own_frame}
+use Rattle.replicate_merge.proofs.Nodes.{node_below-irrefl, node_below-total, apart-once}
 use Rattle.map_quotient.specs.Numbering.{IsNodeOrder, IsPlaced, class_at, IsVertexOf, HasNumber, AreVertices}
 use Rattle.map_quotient.proofs.Places.{push-cases, push-old, push-new, set-other, set-same, replicate-only, one-there, get-less}
 

@@ -19,8 +19,8 @@ use Rattle.journal_defs.specs.Tree.{Node, host_of}
 use Rattle.journal_defs.specs.Truth.{standing}
 use Rattle.journal_defs.proofs.Members.{IsMember, member-place}
 use Rattle.journal_defs.proofs.Standing.{host-stands, leads-crosses, port-below, same_end-of, stand, turn-between}
-use Rattle.growth_laws.proofs.Crossing.{below-ports}
-use Rattle.growth_laws.proofs.Truly.{port-there}
+use Rattle.map_laws.proofs.Crossing.{below-ports}
+use Rattle.map_laws.proofs.Truly.{port-there}
 use Rattle.map_defs.specs.declared.vertex.MapCable.{MapCable}
 use Rattle.map_defs.specs.declared.vertex.MapVertex.{MapVertex}
 use Rattle.map_defs.specs.NetMap.{NetMap, MapPort, IsCabled, far_port, first_end, second_end, is_switch_vertex, map_ends, map_far, switch_at}
@@ -31,9 +31,9 @@ use Rattle.map_laws.proofs.Least.{get-map, named-length}
 use Rattle.map_laws.proofs.Listed.{all-ends}
 use Rattle.fabric_map.specs.Growing.{are_near, cable_refusal, is_near, may_have, with_cable}
 use Rattle.fabric_map.proofs.Ends.{end-far, near-from}
-use Rattle.class_joins.specs.Nodes.{nodes_of}
-use Rattle.class_joins.specs.Table.{ClassTable, IsTrueOfOne}
-use Rattle.class_joins.specs.Ways.{node_at}
+use Rattle.replicate_merge.specs.Nodes.{nodes_of}
+use Rattle.replicate_merge.specs.Table.{ClassTable, IsTrueOfOne}
+use Rattle.replicate_merge.specs.Ways.{node_at}
 use Rattle.map_quotient.specs.Joining.{AreTaken, JoinsBelow, TellsCable, joined_by}
 use Rattle.map_quotient.specs.Joining.JoinsBelow.{start, next}
 use Rattle.map_quotient.specs.Naming.{bare_map, vertices_of}

@@ -8,8 +8,8 @@ use Rattle.map_defs.specs.declared.vertex.MapVertex.{MapVertex}
 use Rattle.map_defs.specs.declared.vertex.MapVertex.TheVariants.{Host, Switch}
 use Rattle.map_defs.specs.NetMap.{NetMap, switches_of}
 use Rattle.map_defs.specs.Quotient.{named}
-use Rattle.class_joins.specs.Nodes.{nodes_of}
-use Rattle.class_joins.specs.Ways.{node_at}
+use Rattle.replicate_merge.specs.Nodes.{nodes_of}
+use Rattle.replicate_merge.specs.Ways.{node_at}
 use Rattle.map_quotient.specs.Naming.{bare_map, with_vertex, vertices_of}
 
 -- the vertex of one node more, after these

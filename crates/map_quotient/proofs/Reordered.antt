@@ -5,7 +5,7 @@ use Rattle.map_defs.specs.NetMap.{NetMap, MapPort, IsMap, map_far}
 use Rattle.map_defs.proofs.Ports.{far_is_cabled}
 use Rattle.fabric_map.specs.Growing.{IsFabricMap, with_cable, with_cables}
 use Rattle.fabric_map.proofs.Grown.{map-cable}
-use Rattle.port_table.specs.Ends.{IsOutside}
+use Rattle.port_align.specs.Ends.{IsOutside}
 use Rattle.fabric_map.specs.Table.{port_at}
 use Rattle.map_quotient.specs.InOrder.{port_of_place, rising_cable, cable_from, cables_below, in_order}
 use Rattle.map_quotient.proofs.Ordered.{ordered_to, ordered-next, ordered-skip, ordered-only, ordered-each}

@@ -7,8 +7,8 @@ use Rattle.std.specs.List.Sorted.{IsPermutation, IsSortedBy}
 use Rattle.std.proofs.lemmas.List.Sorted.{sorted_far, length_permutation, All-permutation, Contains-permutation}
 use Rattle.std.proofs.lemmas.Option.{slice_get-get_or, get_or_from_slice_get}
 use Rattle.journal_defs.specs.Tree.{Node, node_below}
-use Rattle.class_joins.specs.Ways.{node_at}
-use Rattle.class_joins.proofs.Nodes.{not_below, not_below-trans}
+use Rattle.replicate_merge.specs.Ways.{node_at}
+use Rattle.replicate_merge.proofs.Nodes.{not_below, not_below-trans}
 use Rattle.map_quotient.specs.Numbering.{AreNumbersBelow, IsNodeOrder, IsPlaced}
 use Rattle.map_quotient.proofs.Places.{get-less, push-new, push-old}
 

@@ -15,9 +15,9 @@ use Rattle.map_defs.specs.Quotient.{IsLeastNode, IsOfVertex, HasVertex, IsLed}
 use Rattle.map_laws.proofs.Least.{not_apart-nodes, get-map}
 use Rattle.port_align.specs.declared.frame.ClassFrame.{ClassFrame}
 use Rattle.port_align.specs.Offset.{apart}
-use Rattle.class_joins.specs.Table.{ClassTable, IsFramed, HasLeast}
-use Rattle.class_joins.specs.Ways.{node_at, frame_at}
-use Rattle.class_joins.proofs.Nodes.{IsAt, node-at, at-node}
+use Rattle.replicate_merge.specs.Table.{ClassTable, IsFramed, HasLeast}
+use Rattle.replicate_merge.specs.Ways.{node_at, frame_at}
+use Rattle.replicate_merge.proofs.Nodes.{IsAt, node-at, at-node}
 use Rattle.replicate_merge.specs.Merged.{AreClassesOf}
 use Rattle.map_quotient.specs.Numbering.{class_at, IsVertexOf, AreVertices}
 use Rattle.map_quotient.specs.Joining.{vertex_at, port_of}

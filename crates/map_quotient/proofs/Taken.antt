@@ -9,7 +9,7 @@ use Rattle.std.proofs.lemmas.List.{length-map}
 use Rattle.net_defs.specs.Network.{Apart}
 use Rattle.net_defs.specs.Turn.{IsTurn, is_turn}
 use Rattle.journal_defs.proofs.Members.{IsMember, all-member, all-from-members, member-map}
-use Rattle.growth_laws.proofs.Pigeons.{no-more}
+use Rattle.map_laws.proofs.Pigeons.{no-more}
 use Rattle.map_defs.specs.declared.vertex.MapVertex.{MapVertex}
 use Rattle.map_defs.specs.declared.vertex.MapVertex.TheVariants.{Host, Switch}
 use Rattle.map_defs.specs.declared.vertex.MapCable.{MapCable}

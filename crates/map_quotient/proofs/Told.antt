@@ -14,11 +14,11 @@ use Rattle.map_defs.specs.NetMap.IsCabled.{forth, back}
 use Rattle.map_defs.specs.Quotient.{IsLed}
 use Rattle.map_defs.proofs.Ports.{same_port-true}
 use Rattle.fabric_map.specs.Growing.{with_cable}
-use Rattle.class_joins.specs.Table.{ClassTable}
-use Rattle.class_joins.specs.Ways.{node_at}
-use Rattle.class_joins.specs.Nodes.{nodes_of}
-use Rattle.class_joins.proofs.Nodes.{apart-once, nodes-apart}
-use Rattle.class_joins.proofs.Telling.{last-turn, not-empty, walk-node, no-walk, node-walk, IsWalked}
+use Rattle.replicate_merge.specs.Table.{ClassTable}
+use Rattle.replicate_merge.specs.Ways.{node_at}
+use Rattle.replicate_merge.specs.Nodes.{nodes_of}
+use Rattle.replicate_merge.proofs.Nodes.{apart-once, nodes-apart}
+use Rattle.replicate_merge.proofs.Telling.{last-turn, not-empty, walk-node, no-walk, node-walk, IsWalked}
 use Rattle.map_quotient.specs.Joining.{port_of, cable_between, TellsCable, joined, joined_by, JoinsBelow}
 use Rattle.map_quotient.specs.Joining.TellsCable.{from_mapper, from_node, from_none}
 use Rattle.map_quotient.specs.Joining.JoinsBelow.{start, next}

@@ -14,9 +14,9 @@ use Rattle.map_defs.specs.Routing.{is_host_named}
 use Rattle.map_laws.proofs.Least.{named-length, get-map}
 use Rattle.fabric_map.specs.Growing.{has_host, is_full}
 use Rattle.fabric_map.specs.declared.fault.MapFault.TheVariants.{HostTaken, Full}
-use Rattle.class_joins.specs.Nodes.{nodes_of}
-use Rattle.class_joins.specs.Ways.{node_at}
-use Rattle.class_joins.specs.Table.{ClassTable}
+use Rattle.replicate_merge.specs.Nodes.{nodes_of}
+use Rattle.replicate_merge.specs.Ways.{node_at}
+use Rattle.replicate_merge.specs.Table.{ClassTable}
 use Rattle.map_quotient.specs.Naming.{HaveOwnAddresses, addresses_of, vertex_refusal}
 use Rattle.map_quotient.proofs.Standing.{AreOf, frames-apart}
 

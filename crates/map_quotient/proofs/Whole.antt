@@ -10,14 +10,14 @@ use Rattle.map_defs.specs.declared.vertex.MapCable.{MapCable}
 use Rattle.map_defs.specs.declared.vertex.MapVertex.{MapVertex}
 use Rattle.map_defs.specs.NetMap.{NetMap, IsMap, IsCabled, AreInOrder, first_end, map_far}
 use Rattle.map_defs.specs.Quotient.{IsQuotient, named}
-use Rattle.growth_laws.proofs.Truly.{port-there}
-use Rattle.growth_laws.proofs.Crossing.{below-ports}
+use Rattle.map_laws.proofs.Truly.{port-there}
+use Rattle.map_laws.proofs.Crossing.{below-ports}
 use Rattle.fabric_map.specs.Growing.{with_cable}
-use Rattle.class_joins.specs.Table.{ClassTable, IsTrueOfOne}
-use Rattle.class_joins.specs.Ways.{node_at}
-use Rattle.class_joins.specs.Nodes.{nodes_of}
-use Rattle.class_joins.proofs.Nodes.{at-node}
-use Rattle.class_joins.proofs.Telling.{walk-node, count-nodes}
+use Rattle.replicate_merge.specs.Table.{ClassTable, IsTrueOfOne}
+use Rattle.replicate_merge.specs.Ways.{node_at}
+use Rattle.replicate_merge.specs.Nodes.{nodes_of}
+use Rattle.replicate_merge.proofs.Nodes.{at-node}
+use Rattle.replicate_merge.proofs.Telling.{walk-node, count-nodes}
 use Rattle.replicate_merge.proofs.Finding.{few-walks}
 use Rattle.map_quotient.specs.Numbering.{AreVertices}
 use Rattle.map_quotient.specs.Naming.{bare_map, vertices_of}

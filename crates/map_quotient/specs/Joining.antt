@@ -6,8 +6,8 @@ use Rattle.map_defs.specs.declared.vertex.MapCable.{MapCable}
 use Rattle.map_defs.specs.NetMap.{NetMap, MapPort, first_end, map_far}
 use Rattle.fabric_map.specs.Growing.{with_cable, cable_refusal}
 use Rattle.probe.specs.Keeping.{has_walk}
-use Rattle.class_joins.specs.Table.{ClassTable}
-use Rattle.class_joins.specs.Ways.{frame_at}
+use Rattle.replicate_merge.specs.Table.{ClassTable}
+use Rattle.replicate_merge.specs.Ways.{frame_at}
 use Rattle.map_quotient.specs.Numbering.{class_at, IsVertexOf}
 
 -- the vertex of a class

@@ -7,8 +7,8 @@ use Rattle.map_defs.specs.NetMap.{NetMap}
 use Rattle.map_defs.specs.Quotient.{named}
 use Rattle.fabric_map.specs.declared.fault.MapFault.{MapFault}
 use Rattle.fabric_map.specs.Growing.{with_host, with_switch, host_refusal, switch_refusal}
-use Rattle.class_joins.specs.Nodes.{nodes_of}
-use Rattle.class_joins.specs.Ways.{node_at}
+use Rattle.replicate_merge.specs.Nodes.{nodes_of}
+use Rattle.replicate_merge.specs.Ways.{node_at}
 
 -- all core, and no cable
 abbrev pub bare_map : List MapVertex → NetMap

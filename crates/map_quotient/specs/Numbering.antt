@@ -1,8 +1,8 @@
 -- The nodes of a journal in their order, and the vertices of their classes.
 use Rattle.std.specs.Prelude.{◌≡◌, ℕ, ◌<◌, ◌≤◌, true, false, List, length, slice_get, Option, Some}
 use Rattle.journal_defs.specs.Tree.{node_below, Node}
-use Rattle.class_joins.specs.Table.{ClassTable}
-use Rattle.class_joins.specs.Ways.{node_at, frame_at}
+use Rattle.replicate_merge.specs.Table.{ClassTable}
+use Rattle.replicate_merge.specs.Ways.{node_at, frame_at}
 
 -- the numbers below a count, each at its place
 pub record AreNumbersBelow (count : ℕ) (numbers : List ℕ) : Type 0 where

@@ -4,7 +4,7 @@ ghost use Rattle.std.specs.Prelude.{◌≡◌, ◌↔◌, true, IsTrue};
 ghost use Rattle.journal_defs.specs.Tree.{IsSwitchNode};
 ghost use Rattle.journal_defs.specs.Tree.Node.{Reached};
 ghost use Rattle.journal_defs.specs.Growth.{HasExpanded, IsClosed};
-ghost use Rattle.class_joins.specs.Table.{StandsFor};
+ghost use Rattle.replicate_merge.specs.Table.{StandsFor};
 
 use net_defs::{Answer, Walk};
 use probe::Journal;

@@ -3,8 +3,8 @@
 ghost use Rattle.std.specs.Prelude.{◌≡◌, None, IfSome};
 ghost use Rattle.journal_defs.specs.Tree.{host_of};
 ghost use Rattle.journal_defs.specs.Tree.Node.{Mapper, Reached};
-ghost use Rattle.class_joins.specs.Nodes.{nodes_of};
-ghost use Rattle.class_joins.specs.Ways.{node_at};
+ghost use Rattle.replicate_merge.specs.Nodes.{nodes_of};
+ghost use Rattle.replicate_merge.specs.Ways.{node_at};
 
 use net_defs::Answer;
 use probe::{Journal, WalkIndex};

@@ -4,7 +4,7 @@
 ghost use Rattle.std.specs.Prelude.{◌≡◌, ℕ, ◌+◌, ◌<◌, ◌^◌, ℤ, List, length, slice_get, Some, None, IfSome, OnOk};
 ghost use Rattle.map_quotient.specs.Numbering.{IsVertexOf};
 ghost use Rattle.net_defs.specs.Turn.{IsTurn};
-ghost use Rattle.class_joins.specs.Nodes.{nodes_of};
+ghost use Rattle.replicate_merge.specs.Nodes.{nodes_of};
 ghost use Rattle.map_defs.specs.NetMap.{first_end, map_far};
 ghost use Rattle.fabric_map.specs.Growing.{cable_refusal};
 ghost use Rattle.map_quotient.specs.Joining.{TellsCable, JoinsBelow, HaveVertices, EndInTurns, port_of, cable_between};

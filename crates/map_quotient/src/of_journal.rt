@@ -3,8 +3,8 @@
 ghost use Rattle.std.specs.Prelude.{◌≡◌, ◌<◌, length, IfOk};
 ghost use Rattle.journal_defs.specs.Tree.{nodes};
 ghost use Rattle.map_defs.specs.Quotient.{IsQuotient};
-ghost use Rattle.class_joins.specs.Nodes.{nodes_of};
-ghost use Rattle.class_joins.specs.Table.{StandsFor, IsTrueOfOne};
+ghost use Rattle.replicate_merge.specs.Nodes.{nodes_of};
+ghost use Rattle.replicate_merge.specs.Table.{StandsFor, IsTrueOfOne};
 ghost use Rattle.map_quotient.specs.InOrder.{in_order};
 ghost use Rattle.map_quotient.specs.Numbering.{AreVertices};
 ghost use Rattle.replicate_merge.specs.Merged.{AreClassesOf};

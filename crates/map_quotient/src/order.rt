@@ -4,8 +4,8 @@ ghost use Rattle.std.specs.Prelude.{◌≡◌, ◌+◌, ◌<◌, ◌^◌, length
 ghost use Rattle.std.specs.Ordering.{is_lt};
 ghost use Rattle.journal_defs.specs.Tree.{node_below};
 ghost use Rattle.journal_defs.specs.Walks.{turns_below, walk_below};
-ghost use Rattle.class_joins.specs.Nodes.{nodes_of};
-ghost use Rattle.class_joins.specs.Ways.{node_at};
+ghost use Rattle.replicate_merge.specs.Nodes.{nodes_of};
+ghost use Rattle.replicate_merge.specs.Ways.{node_at};
 ghost use Rattle.map_quotient.specs.Numbering.{AreNumbersBelow, IsNodeOrder};
 
 use crate::found::walk_of;

@@ -16,7 +16,7 @@ use Rattle.map_defs.proofs.Leading.{far-end}
 use Rattle.map_defs.proofs.Ports.{far_is_cabled}
 use Rattle.fabric_map.proofs.Ends.{port-holds}
 use Rattle.fabric_map.proofs.Tables.{shift}
-use Rattle.class_joins.proofs.Nodes.{node_below-irrefl, not_below, not_below-trans}
+use Rattle.replicate_merge.proofs.Nodes.{node_below-irrefl, not_below, not_below-trans}
 use Rattle.map_renumber.specs.Canon.{entered, start_port}
 use Rattle.map_renumber.specs.Search.{HasNumber, turn_at, after, IsDone, GoesOn, IsBehind, IsSearch}
 use Rattle.map_quotient.proofs.Places.{one-there, get-less}

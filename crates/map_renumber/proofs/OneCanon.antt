@@ -18,7 +18,7 @@ use Rattle.map_laws.proofs.Listed.{port-asym, in-order}
 use Rattle.map_laws.proofs.OneMap.{AreRising, rising-one, rising-places}
 use Rattle.map_renumber.specs.Canon.{entered, IsLeastWay, IsPortOf, IsMoved, IsRenumbered, IsCanon}
 use Rattle.map_renumber.specs.Laws.{CanonIsOne, CanonStays}
-use Rattle.class_joins.proofs.Nodes.{node_below-trans, node_below-irrefl}
+use Rattle.replicate_merge.proofs.Nodes.{node_below-trans, node_below-irrefl}
 use Rattle.map_quotient.proofs.Places.{one-there, get-less, place-member}
 use Rattle.map_quotient.proofs.Vertices.{map-place}
 use Rattle.map_renumber.proofs.Images.{host-below, image_of, IsInside, entered-image, entered-inside}

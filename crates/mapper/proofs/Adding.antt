@@ -13,10 +13,10 @@ use Rattle.journal_defs.specs.Growth.IsGrowing.{more as one_more_entry}
 use Rattle.journal_defs.specs.Truth.{IsTrueWhereFound}
 use Rattle.journal_defs.specs.Tree.{nodes}
 use Rattle.journal_defs.proofs.Members.{all-join}
-use Rattle.growth_laws.proofs.Asks.{growing-tree, growing-once, ask-new}
-use Rattle.growth_laws.proofs.Few.{asks_are_few}
+use Rattle.map_laws.proofs.Asks.{growing-tree, growing-once, ask-new}
+use Rattle.map_laws.proofs.Few.{asks_are_few}
 use Rattle.replicate_merge.specs.Next.{IsNext}
-use Rattle.class_joins.specs.Table.{ClassTable, StandsFor}
+use Rattle.replicate_merge.specs.Table.{ClassTable, StandsFor}
 use Rattle.probe.specs.Drowning.{IsTrueOrDrowned}
 use Rattle.mapper.specs.Turns.{turn_at}
 use Rattle.mapper.specs.Growths.{StopsShort, IsLostAsk, IsAsk, HasGrown, IsToldOf, IsNextWalk, IsNextEntry, IsUnderWay, ExpandsOrFills, GrownBy, grown_by}

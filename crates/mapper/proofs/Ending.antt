@@ -9,10 +9,10 @@ use Rattle.journal_defs.specs.Depth.{IsSmallEnough, enough_depth}
 use Rattle.journal_defs.specs.Tree.{is_found, nodes}
 use Rattle.journal_defs.specs.Truth.{IsTrueJournal}
 use Rattle.journal_defs.specs.Growth.{IsGrown, IsEndedByDepth, IsEndedAtLimit, IsClosed, node_limit}
-use Rattle.growth_laws.specs.Laws.{EndsClosed}
-use Rattle.growth_laws.proofs.Few.{asks_are_few}
-use Rattle.growth_laws.proofs.Depth.{depth_suffices}
-use Rattle.growth_laws.proofs.OneJournal.{grown_journal_is_one}
+use Rattle.map_laws.specs.Laws.{EndsClosed}
+use Rattle.map_laws.proofs.Few.{asks_are_few}
+use Rattle.map_laws.proofs.Depth.{depth_suffices}
+use Rattle.map_laws.proofs.OneJournal.{grown_journal_is_one}
 use Rattle.mapper.specs.Asks.{AreAsked}
 use Rattle.mapper.specs.Ends.{IsEnd, IsOneDeeper}
 use Rattle.mapper.specs.Growths.{StopsShort}

@@ -9,9 +9,9 @@ use Rattle.journal_defs.specs.Tree.{IsSwitchNode, is_asked}
 use Rattle.journal_defs.specs.Growth.{IsBegun, IsExpanded, IsLeastUnasked, IsAtRest, IsChosen, NextAsk}
 use Rattle.journal_defs.specs.Growth.NextAsk.{goes_on, begins}
 use Rattle.journal_defs.proofs.Order.{below-irrefl}
-use Rattle.growth_laws.proofs.Keeping.{Keeps, keeps-append, asked-push, asked-kept, asked-last, expanded-kept}
-use Rattle.growth_laws.proofs.Asks.{HasTree, push-parts, switch-node, expanded-has}
-use Rattle.growth_laws.proofs.Phases.{begun-push, same_or_not}
+use Rattle.map_laws.proofs.Keeping.{Keeps, keeps-append, asked-push, asked-kept, asked-last, expanded-kept}
+use Rattle.map_laws.proofs.Asks.{HasTree, push-parts, switch-node, expanded-has}
+use Rattle.map_laws.proofs.Phases.{begun-push, same_or_not}
 use Rattle.mapper.specs.Turns.{turn_at}
 use Rattle.mapper.proofs.Turning.{lesser-turn, turns-apart, turn-onward, turn-place}
 

@@ -7,7 +7,7 @@ use Rattle.std.proofs.lemmas.Bool.Decides.{Decides-int_eq}
 use Rattle.std.proofs.lemmas.Int.{ints}
 use Rattle.journal_defs.specs.Walks.{turns_below, walk_below}
 use Rattle.journal_defs.proofs.Order.{or-left, or-right, below-parts, below-shorter}
-use Rattle.growth_laws.proofs.Asks.{push-length}
+use Rattle.map_laws.proofs.Asks.{push-length}
 
 below-turns : (v w : List ℤ) → length v ≡ length w → turns_below v w ≡ true → walk_below v w ≡ true
 below-turns v w l e = or-right (nat_lt (length v) (length w)) _ (rw (eq-eqb (length v) (length w) l) e)

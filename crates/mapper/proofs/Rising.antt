@@ -13,11 +13,11 @@ use Rattle.journal_defs.specs.Growth.NextAsk.{first, goes_on, begins}
 use Rattle.journal_defs.proofs.Members.{IsMember}
 use Rattle.journal_defs.proofs.Order.{below-trans, below-total}
 use Rattle.journal_defs.proofs.Asking.{unasked-open}
-use Rattle.growth_laws.proofs.Keeping.{Keeps, keeps-append, asked-push, asked-kept, expanded-kept, has_expanded-kept, begun-kept}
-use Rattle.growth_laws.proofs.Asks.{HasTree, growing-tree, push-parts, switch-node, expanded-has, first-unbegun, ByLast, by_last}
-use Rattle.growth_laws.proofs.Asks.ByLast.{empty, pushed}
-use Rattle.growth_laws.proofs.Phases.{begun-push, below-push, same_or_not, chosen-begun}
-use Rattle.growth_laws.proofs.Few.{member-asked}
+use Rattle.map_laws.proofs.Keeping.{Keeps, keeps-append, asked-push, asked-kept, expanded-kept, has_expanded-kept, begun-kept}
+use Rattle.map_laws.proofs.Asks.{HasTree, growing-tree, push-parts, switch-node, expanded-has, first-unbegun, ByLast, by_last}
+use Rattle.map_laws.proofs.Asks.ByLast.{empty, pushed}
+use Rattle.map_laws.proofs.Phases.{begun-push, below-push, same_or_not, chosen-begun}
+use Rattle.map_laws.proofs.Few.{member-asked}
 use Rattle.mapper.proofs.Orders.{below-onward, below-last, below-empty}
 
 -- The highest node that is begun: lesser ones are expanded, its turns were asked in rising order, and lesser switches have expanded classes.

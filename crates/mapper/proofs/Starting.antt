@@ -11,9 +11,9 @@ use Rattle.journal_defs.specs.Truth.{IsTrueWhereFound}
 use Rattle.journal_defs.specs.Growth.{IsGrowing, IsBegun, IsEndedByDepth, IsEndedAtLimit}
 use Rattle.journal_defs.specs.Growth.IsGrowing.{nothing}
 use Rattle.journal_defs.specs.Growth.NextAsk.{first}
-use Rattle.growth_laws.proofs.Keeping.{asked-last}
-use Rattle.growth_laws.proofs.Asks.{first-unbegun}
-use Rattle.class_joins.specs.Table.{StandsFor}
+use Rattle.map_laws.proofs.Keeping.{asked-last}
+use Rattle.map_laws.proofs.Asks.{first-unbegun}
+use Rattle.replicate_merge.specs.Table.{StandsFor}
 use Rattle.mapper.specs.Growths.{GrowsBy, StopsShort, IsLostAsk, IsAsk, HasGrown, IsNextWalk, IsStarted, IsBareTree, IsWhole}
 use Rattle.mapper.specs.declared.tree.Tree.{Tree}
 use Rattle.mapper.proofs.Growing.{nodes-push, grows-none, grows-join, grows-ask, stops-between, stops-lost, stops-later}

@@ -15,10 +15,10 @@ use Rattle.journal_defs.specs.Tree.Node.{Reached}
 use Rattle.journal_defs.specs.Growth.{IsGrowing, IsAtRest, IsExpanded, IsChosen, IsEndedAtLimit, HasExpanded, crossed, node_limit}
 use Rattle.net_defs.proofs.Turns.{same_turns-true}
 use Rattle.journal_defs.proofs.Order.{below-parts, below-trans, below-irrefl}
-use Rattle.growth_laws.proofs.Keeping.{Keeps, keeps-append, asked-kept, has_expanded-kept}
-use Rattle.growth_laws.proofs.Asks.{growing-once, switch-node, expanded-has}
-use Rattle.growth_laws.proofs.Few.{asks_are_few}
-use Rattle.class_joins.specs.Table.{StandsFor}
+use Rattle.map_laws.proofs.Keeping.{Keeps, keeps-append, asked-kept, has_expanded-kept}
+use Rattle.map_laws.proofs.Asks.{growing-once, switch-node, expanded-has}
+use Rattle.map_laws.proofs.Few.{asks_are_few}
+use Rattle.replicate_merge.specs.Table.{StandsFor}
 use Rattle.mapper.specs.Growths.{HasGrown, IsUnderWay, ExpandsOrFills, IsNextOpen, AreExpanded, IsSwept, IsWhole}
 use Rattle.mapper.specs.Growths.ExpandsOrFills.{expands, fills}
 use Rattle.mapper.specs.declared.tree.Tree.{Tree}

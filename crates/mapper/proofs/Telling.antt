@@ -8,11 +8,11 @@ use Rattle.journal_defs.specs.Tree.{Node, IsSwitchNode, IsJournal, answered, nod
 use Rattle.journal_defs.specs.Tree.Node.{Reached}
 use Rattle.journal_defs.specs.Growth.{HasExpanded, crossed}
 use Rattle.port_align.specs.declared.frame.ClassFrame.{ClassFrame}
-use Rattle.growth_laws.proofs.Asks.{switch-node}
+use Rattle.map_laws.proofs.Asks.{switch-node}
 use Rattle.probe.proofs.Indexing.{answered-at}
-use Rattle.class_joins.specs.Table.{ClassTable, StandsFor}
-use Rattle.class_joins.specs.Ways.{node_at}
-use Rattle.class_joins.proofs.Nodes.{node-at}
+use Rattle.replicate_merge.specs.Table.{ClassTable, StandsFor}
+use Rattle.replicate_merge.specs.Ways.{node_at}
+use Rattle.replicate_merge.proofs.Nodes.{node-at}
 use Rattle.mapper.specs.Finding.{TellsExpanded, TellsOpen, TellsOpenAt}
 use Rattle.mapper.specs.Growths.{AreExpanded, IsNextOpen}
 

@@ -5,7 +5,7 @@ use Rattle.journal_defs.specs.declared.entry.Entry.{Entry}
 use Rattle.journal_defs.specs.Tree.{IsSwitchNode, answered}
 use Rattle.journal_defs.specs.Tree.Node.{Reached}
 use Rattle.journal_defs.specs.Growth.{HasExpanded, crossed}
-use Rattle.class_joins.specs.Table.{ClassTable, StandsFor}
+use Rattle.replicate_merge.specs.Table.{ClassTable, StandsFor}
 
 -- Whether the class of a switch has an expanded member, of whatever journal the classes stand for.
 pub record TellsExpanded (c : ClassTable) (w : List ℤ) (told : Bool) : Type 0 where

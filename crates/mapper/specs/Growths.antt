@@ -14,7 +14,7 @@ use Rattle.journal_defs.specs.Growth.{crossed, node_limit}
 use Rattle.probe.specs.Keeping.{with_entry}
 use Rattle.probe.specs.Drowning.{IsTrueOrDrowned}
 use Rattle.replicate_merge.specs.Next.{IsNext}
-use Rattle.class_joins.specs.Table.{ClassTable, StandsFor}
+use Rattle.replicate_merge.specs.Table.{ClassTable, StandsFor}
 use Rattle.mapper.specs.Asks.{AreAsked}
 use Rattle.mapper.specs.Finding.{IsOpenEntry}
 use Rattle.mapper.specs.declared.growth.Grown.{Grown}

@@ -5,7 +5,7 @@ ghost use Rattle.fab_outer.specs.Fault.{Rose};
 ghost use Rattle.journal_defs.specs.Growth.{IsGrown, IsEndedAtLimit};
 ghost use Rattle.journal_defs.specs.Truth.{IsTrueJournal, IsTrueWhereFound};
 ghost use Rattle.net_defs.specs.Network.{IsFabric};
-ghost use Rattle.class_joins.specs.Table.{StandsFor};
+ghost use Rattle.replicate_merge.specs.Table.{StandsFor};
 ghost use Rattle.mapper.specs.Asks.{AreAsked};
 ghost use Rattle.mapper.specs.Growths.{StopsShort, IsBareTree, IsGrownTree, IsStarted, grown_of};
 

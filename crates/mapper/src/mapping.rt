@@ -7,7 +7,7 @@ ghost use Rattle.journal_defs.specs.Growth.{IsGrown, IsEndedAtLimit};
 ghost use Rattle.journal_defs.specs.Truth.{IsTrueJournal, IsTrueWhereFound};
 ghost use Rattle.map_defs.specs.Quotient.{IsQuotient};
 ghost use Rattle.map_defs.specs.Sameness.{IsMapOfPart};
-ghost use Rattle.class_joins.specs.Table.{StandsFor, IsTrueOfOne};
+ghost use Rattle.replicate_merge.specs.Table.{StandsFor, IsTrueOfOne};
 ghost use Rattle.fabric_map.specs.Growing.{empty_map};
 ghost use Rattle.replicate_merge.specs.Merged.{AreClassesOf, without_tables};
 ghost use Rattle.mapper.specs.Asks.{AreAsked};

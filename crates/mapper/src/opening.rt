@@ -1,7 +1,7 @@
 //! Which node is to be expanded next.
 
 ghost use Rattle.std.specs.Prelude.{◌≡◌, ◌<◌, length, None, IfSome};
-ghost use Rattle.class_joins.specs.Table.{StandsFor};
+ghost use Rattle.replicate_merge.specs.Table.{StandsFor};
 ghost use Rattle.mapper.specs.Growths.{AreExpanded, IsNextOpen};
 ghost use Rattle.mapper.specs.Finding.{TellsExpanded, TellsOpen, TellsOpenAt};
 

@@ -9,8 +9,8 @@ use Rattle.net_defs.specs.declared.place.Answer.TheVariants.{Nothing}
 use Rattle.net_defs.specs.Route.{answer}
 use Rattle.net_defs.specs.Turn.{is_turn, IsTurn}
 use Rattle.journal_defs.specs.declared.entry.Entry.{Entry}
-use Rattle.growth_laws.specs.Laws.{IsTold, TellsTruth}
-use Rattle.growth_laws.proofs.Existence.{told_journal_exists}
+use Rattle.map_laws.specs.Laws.{IsTold, TellsTruth}
+use Rattle.map_laws.proofs.Existence.{told_journal_exists}
 use Rattle.cable_history.specs.History.{fabric_at}
 use Rattle.cable_history.proofs.Later.{pulled-later, later-past}
 use Rattle.cable_history.proofs.Now.{last_is_now, now_is_fabric}

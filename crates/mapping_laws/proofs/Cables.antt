@@ -17,10 +17,10 @@ use Rattle.journal_defs.specs.Replicates.{Replicates}
 use Rattle.journal_defs.specs.Replicates.Replicates.{turned as other_way, along, behind}
 use Rattle.journal_defs.proofs.Members.{IsMember, member-left, member-right, member-map, member-place, all-member, all-from-members}
 use Rattle.journal_defs.proofs.Standing.{stand, same_end-of, leads-crosses, leads-from, leads-to, offset_is_unique}
-use Rattle.growth_laws.proofs.Classes.{all_nodes}
-use Rattle.growth_laws.proofs.Few.{node-found}
-use Rattle.growth_laws.proofs.Full.{leads-back}
-use Rattle.growth_laws.proofs.Leading.{HasLead, HasNoLead, find-lead}
+use Rattle.map_laws.proofs.Classes.{all_nodes}
+use Rattle.map_laws.proofs.Few.{node-found}
+use Rattle.map_laws.proofs.Full.{leads-back}
+use Rattle.map_laws.proofs.Leading.{HasLead, HasNoLead, find-lead}
 use Rattle.map_defs.specs.declared.vertex.MapCable.{MapCable}
 use Rattle.map_defs.specs.declared.vertex.MapVertex.{MapVertex}
 use Rattle.map_defs.specs.NetMap.{NetMap, MapPort, IsCabled, AreInOrder, first_end, second_end, port_below}

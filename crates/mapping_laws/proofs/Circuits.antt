@@ -3,8 +3,8 @@
 use Rattle.std.proofs.Common.{List, [], ◌∷◌, length, inl, inr, refl}
 use Rattle.journal_defs.specs.declared.entry.Entry.{Entry}
 use Rattle.circ_defs.specs.Asking.{IsTreeGrowing}
-use Rattle.circ_class_laws.proofs.Growing.{grown_tree_is_whole}
-use Rattle.circ_map_laws.specs.Laws.{IsTreeStopped}
+use Rattle.circ_laws.proofs.Growing.{grown_tree_is_whole}
+use Rattle.circ_laws.specs.Laws.{IsTreeStopped}
 use Rattle.mapping_laws.proofs.Trees.{tree_exists}
 use Rattle.mapping_laws.proofs.Without.{circuit_map_exists}
 use Rattle.run_defs.specs.declared.line.Line.TheVariants.{Circuit, CircuitNodes}

@@ -8,12 +8,12 @@ use Rattle.journal_defs.specs.Tree.{Node, IsSwitchNode, answered}
 use Rattle.journal_defs.specs.Tree.Node.{Reached}
 use Rattle.journal_defs.specs.Growth.{IsExpanded, IsLeastUnasked, HasExpanded, IsClosed}
 use Rattle.journal_defs.proofs.Standing.{replicates-nodes}
-use Rattle.growth_laws.proofs.Asks.{switch-node}
-use Rattle.growth_laws.proofs.Classes.{HasClasses, classes, one-or-not}
-use Rattle.growth_laws.proofs.Few.{found_walks, node-found}
-use Rattle.growth_laws.proofs.Full.{AreOne}
-use Rattle.growth_laws.proofs.Looking.{Each, Among, look}
-use Rattle.growth_laws.proofs.Next.{least-turn}
+use Rattle.map_laws.proofs.Asks.{switch-node}
+use Rattle.map_laws.proofs.Classes.{HasClasses, classes, one-or-not}
+use Rattle.map_laws.proofs.Few.{found_walks, node-found}
+use Rattle.map_laws.proofs.Full.{AreOne}
+use Rattle.map_laws.proofs.Looking.{Each, Among, look}
+use Rattle.map_laws.proofs.Next.{least-turn}
 use Rattle.mapping_laws.specs.Maps.{ClosedIsDecided}
 
 -- a walk found a switch or not

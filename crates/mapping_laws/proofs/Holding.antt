@@ -7,9 +7,9 @@ use Rattle.net_defs.specs.declared.route.Route.{Route}
 use Rattle.net_defs.specs.Network.{Network}
 use Rattle.cable_history.specs.History.{CableHistory, IsHistory, fabric_at}
 use Rattle.cable_history.proofs.Now.{last_is_now}
-use Rattle.act_defs.specs.Acts.{Happens, acted_all}
-use Rattle.act_defs.proofs.Epochs.{may-from}
-use Rattle.act_defs.proofs.Kept.{CablesKept}
+use Rattle.world_defs.specs.Acts.{Happens, acted_all}
+use Rattle.world_defs.proofs.AdoptedEpochs.{may-from}
+use Rattle.world_defs.proofs.ActsKept.{CablesKept}
 use Rattle.map_defs.specs.Orientation.{order_of}
 use Rattle.map_defs.proofs.Places.{places_are_an_order}
 use Rattle.map_laws.specs.RouteSets.{AreRightRoutes}

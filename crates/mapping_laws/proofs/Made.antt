@@ -19,10 +19,10 @@ use Rattle.map_defs.specs.NetMap.{NetMap, IsMap, IsConnected}
 use Rattle.map_defs.specs.Core.{core_of}
 use Rattle.map_defs.specs.Sameness.{IsMapOfPart}
 use Rattle.map_defs.proofs.Sameness.{same_map_is_right}
-use Rattle.growth_laws.proofs.Asks.{growing-tree, push-parts, not_empty}
-use Rattle.growth_laws.proofs.Near.{are-short, few-turns, onward-walk}
-use Rattle.growth_laws.proofs.Few.{asks_are_few, member-asked}
-use Rattle.growth_laws.proofs.Depth.{depth_suffices}
+use Rattle.map_laws.proofs.Asks.{growing-tree, push-parts, not_empty}
+use Rattle.map_laws.proofs.Near.{are-short, few-turns, onward-walk}
+use Rattle.map_laws.proofs.Few.{asks_are_few, member-asked}
+use Rattle.map_laws.proofs.Depth.{depth_suffices}
 use Rattle.map_laws.proofs.Alike.{marks_do_not_matter}
 use Rattle.map_laws.proofs.Assembly.{closed_map_is_right}
 use Rattle.map_laws.proofs.Connected.{quotient_is_connected}

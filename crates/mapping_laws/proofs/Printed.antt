@@ -35,7 +35,7 @@ use Rattle.run_defs.proofs.ByKind.{InDeed, refused-map, refused-routes, by-event
 use Rattle.run_defs.specs.Run.Runs.{ended, goes_on}
 use Rattle.run_defs.specs.Headline.{FitsFabric, WasTrue}
 use Rattle.circ_defs.specs.CircuitMap.{IsCircuitMap}
-use Rattle.circ_map_laws.proofs.Numbering.{circuit_map_is_core}
+use Rattle.circ_laws.proofs.Numbering.{circuit_map_is_core}
 use Rattle.mapping_laws.specs.Runs.{IsSessionOf, CompleteMapsAreTrue, DeepMapsAreComplete}
 use Rattle.mapping_laws.specs.Circuits.{WasTold, CircuitMapsAreTrue}
 use Rattle.mapping_laws.proofs.Made.{made_map_is_right, deep_map_is_complete}

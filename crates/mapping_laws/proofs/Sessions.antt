@@ -2,8 +2,8 @@
 use Rattle.std.proofs.Common.{◌≡◌, ◌<◌, ◌≤◌, ℕ, true, List, [], ◌∷◌, map, length, sym, ◌∙◌, ap, subst, arith}
 use Rattle.std.specs.List.{AllByRecursion}
 use Rattle.net_defs.specs.Network.{Network, IsFabric}
-use Rattle.act_defs.specs.Acts.{Act, Happens, Plans, Adopts, acted, acted_all}
-use Rattle.act_defs.proofs.Cables.{new-cables}
+use Rattle.world_defs.specs.Acts.{Act, Happens, Plans, Adopts, acted, acted_all}
+use Rattle.world_defs.proofs.Cables.{new-cables}
 use Rattle.journal_defs.specs.declared.entry.Entry.{Entry}
 use Rattle.link_defs.specs.Links.{is_idle}
 use Rattle.world_defs.specs.declared.event.Event.{Event}

@@ -11,17 +11,17 @@ use Rattle.journal_defs.specs.Growth.{crossed, node_limit}
 use Rattle.journal_defs.proofs.Members.{IsMember, member-left, member-right, member-map, all-member}
 use Rattle.journal_defs.proofs.Counted.{onward-member, all-onward}
 use Rattle.journal_defs.proofs.Order.{below-irrefl, below-trans}
-use Rattle.growth_laws.proofs.Asks.{ByLast, by_last, not_empty, push-parts, switch-node, walks}
-use Rattle.growth_laws.proofs.Asks.ByLast.{empty, pushed}
-use Rattle.growth_laws.proofs.Few.{found_walks, found-length, node-found, member-asked}
-use Rattle.growth_laws.proofs.Looking.{Each, IsOrder, Least, least}
-use Rattle.growth_laws.proofs.Pigeons.{no-more}
+use Rattle.map_laws.proofs.Asks.{ByLast, by_last, not_empty, push-parts, switch-node, walks}
+use Rattle.map_laws.proofs.Asks.ByLast.{empty, pushed}
+use Rattle.map_laws.proofs.Few.{found_walks, found-length, node-found, member-asked}
+use Rattle.map_laws.proofs.Looking.{Each, IsOrder, Least, least}
+use Rattle.map_laws.proofs.Pigeons.{no-more}
 use Rattle.circ_defs.specs.Circuit.{circuit_answer}
 use Rattle.circ_defs.specs.Asking.{IsOfTree, IsNextOfTree, IsTreeGrowing}
 use Rattle.circ_defs.specs.Asking.IsOfTree.{first, onward}
 use Rattle.circ_defs.specs.Asking.IsTreeGrowing.{nothing, more}
-use Rattle.circ_class_laws.proofs.Growing.{growing-once, growing-only}
-use Rattle.circ_map_laws.specs.Laws.{IsTreeStopped}
+use Rattle.circ_laws.proofs.Growing.{growing-once, growing-only}
+use Rattle.circ_laws.specs.Laws.{IsTreeStopped}
 use Rattle.mapping_laws.specs.Trees.{TreeExists}
 use Rattle.mapping_laws.proofs.Closed.{switch-or-not}
 

@@ -10,10 +10,10 @@ use Rattle.journal_defs.specs.Replicates.Replicates.{same, along}
 use Rattle.journal_defs.proofs.Members.{IsMember, member-map, member-place, all-member, all-from-members}
 use Rattle.journal_defs.proofs.Order.{below-trans}
 use Rattle.journal_defs.proofs.Standing.{replicates-nodes}
-use Rattle.growth_laws.proofs.Classes.{all_nodes, HasClasses, classes, one-or-not}
-use Rattle.growth_laws.proofs.Few.{node-found}
-use Rattle.growth_laws.proofs.Full.{AreOne}
-use Rattle.growth_laws.proofs.Looking.{Each, Among, look, IsOrder, Least, least}
+use Rattle.map_laws.proofs.Classes.{all_nodes, HasClasses, classes, one-or-not}
+use Rattle.map_laws.proofs.Few.{node-found}
+use Rattle.map_laws.proofs.Full.{AreOne}
+use Rattle.map_laws.proofs.Looking.{Each, Among, look, IsOrder, Least, least}
 use Rattle.map_defs.specs.Quotient.{IsLeastNode, HasVertex}
 use Rattle.map_defs.proofs.TwoHosts.{itself_not_below}
 use Rattle.map_laws.proofs.Least.{not_apart-nodes}

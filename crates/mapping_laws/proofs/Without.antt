@@ -15,7 +15,7 @@ use Rattle.map_defs.specs.Quotient.{named}
 use Rattle.map_laws.proofs.OneMap.{AreRising, place-member}
 use Rattle.mapping_laws.proofs.Cables.{quotient_exists}
 use Rattle.circ_defs.specs.CircuitMap.{IsKeptCable, IsWithoutOutside}
-use Rattle.circ_class_laws.proofs.Telling.{circuit-true}
+use Rattle.circ_laws.proofs.Telling.{circuit-true}
 use Rattle.mapping_laws.specs.Trees.{WithoutOutsideExists, CircuitMapExists}
 
 -- places of a list that rises

@@ -6,7 +6,7 @@ use Rattle.map_defs.specs.NetMap.{NetMap, AreInOrder}
 use Rattle.circ_defs.specs.Asking.{IsTreeGrowing}
 use Rattle.circ_defs.specs.Circuit.{IsWholeTree}
 use Rattle.circ_defs.specs.CircuitMap.{IsWithoutOutside, IsCircuitMap}
-use Rattle.circ_map_laws.specs.Laws.{IsTreeStopped}
+use Rattle.circ_laws.specs.Laws.{IsTreeStopped}
 
 -- A tree that is asked in order comes to its end: each walk of it is asked, or the limit of nodes is passed.
 abbrev pub TreeExists : Type 0

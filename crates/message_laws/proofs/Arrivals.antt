@@ -26,7 +26,7 @@ use Rattle.world_defs.specs.Client.{ClientState, Called, Wanted, wanted_message,
 use Rattle.world_defs.specs.World.{WorldState, host_count, new_world, node_at}
 use Rattle.world_defs.specs.Sound.{IsPrefix}
 use Rattle.world_defs.specs.Traffic.{sent_on}
-use Rattle.act_defs.specs.Acts.{Act, acted, IsReached}
+use Rattle.world_defs.specs.Acts.{Act, acted, IsReached}
 use Rattle.message_laws.specs.Says.{SaysTrue}
 use Rattle.message_laws.proofs.Lanes.{front-same}
 use Rattle.message_laws.proofs.Worlds.{to_host}
@@ -37,7 +37,7 @@ use Rattle.world_defs.proofs.Lanes.{lane_of-below}
 use Rattle.message_laws.proofs.Heard.{IsHeard, quietly, of_frame, of_ack, hear-is}
 use Rattle.message_laws.proofs.Hosts.{Rules, Goes, acted-goes}
 use Rattle.world_defs.proofs.Hearings.{all_finished-lanes}
-use Rattle.act_defs.proofs.Reaching.{reached-has}
+use Rattle.world_defs.proofs.Reaching.{reached-has}
 use Rattle.message_laws.proofs.Windows.{reached-windowed}
 use Rattle.message_laws.specs.Untouched.{IsUntouched}
 use Rattle.message_laws.specs.Received.{IsOfMessage, ReceivedEventsAreOfMessages}

@@ -34,11 +34,11 @@ use Rattle.world_defs.specs.World.{WorldState, host_count, new_world, node_at, c
 use Rattle.world_defs.specs.Sound.{IsEachOnce, HasOwners, AreOwned}
 use Rattle.world_defs.proofs.Calls.{IsClosable, not_refused-closable}
 use Rattle.world_laws.proofs.Lists.{at-set}
-use Rattle.act_defs.specs.Acts.{Act, acted, IsReached}
+use Rattle.world_defs.specs.Acts.{Act, acted, IsReached}
 use Rattle.owner_laws.proofs.Owners.{always-owned}
 use Rattle.message_laws.proofs.Heard.{IsHeard, quietly, of_frame, of_ack, hear-is}
 use Rattle.message_laws.proofs.Hosts.{Rules, Goes, acted-goes}
-use Rattle.act_defs.proofs.Reaching.{reached-has}
+use Rattle.world_defs.proofs.Reaching.{reached-has}
 use Rattle.message_laws.proofs.Windows.{numbers_of, reached-windowed}
 use Rattle.message_laws.proofs.Taking.{taker-prio}
 use Rattle.message_laws.specs.Untouched.{held_in, IsUntouched, IsAsProvided, HandsBackAll, HandsBackBy, ProvidedBuffersAreUntouched, ClosedBuffersAreUntouched}

@@ -31,8 +31,8 @@ use Rattle.world_defs.specs.Traffic.{sent_on}
 use Rattle.world_defs.proofs.Lanes.{lane_of-parts, lane_of-below, peer_of-lane, prio_of-lane, facing, facing-taking}
 use Rattle.world_defs.proofs.Lists.{each-replicate}
 use Rattle.world_defs.proofs.Calls.{Call}
-use Rattle.act_defs.specs.Acts.{Act, acted, IsReached}
-use Rattle.act_defs.proofs.Reaching.{reached-has}
+use Rattle.world_defs.specs.Acts.{Act, acted, IsReached}
+use Rattle.world_defs.proofs.Reaching.{reached-has}
 use Rattle.world_laws.specs.Shape.{IsWorld}
 use Rattle.world_laws.proofs.Lists.{at-set}
 use Rattle.message_laws.specs.Says.{SaysTrue}

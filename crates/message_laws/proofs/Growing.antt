@@ -14,8 +14,8 @@ use Rattle.world_defs.specs.World.{WorldState, host_count, node_at}
 use Rattle.world_defs.proofs.Lists.{each-set}
 use Rattle.world_defs.proofs.Views.{HostChange}
 use Rattle.world_defs.proofs.Calls.{call_view}
-use Rattle.act_defs.specs.Acts.{Act, acted}
-use Rattle.act_defs.proofs.Hosts.{NodeChange, nodes_view, each_node}
+use Rattle.world_defs.specs.Acts.{Act, acted}
+use Rattle.world_defs.proofs.Hosts.{NodeChange, nodes_view, each_node}
 use Rattle.message_laws.specs.Growing.{GrowsByOne, stays, one_more, MessagesOnlyGrow}
 use Rattle.message_laws.proofs.Heard.{IsHeard, quietly, of_frame, of_ack, hear-is}
 use Rattle.message_laws.proofs.Calls.{CallDoes, call-does}

@@ -8,10 +8,10 @@ use Rattle.world_defs.specs.Node.{NodeState, Outgoing, to_send, after_sending, n
 use Rattle.world_defs.specs.Hearing.{hear}
 use Rattle.world_defs.specs.Client.{Called}
 use Rattle.world_defs.specs.World.{WorldState, host_count, node_at, client_at}
-use Rattle.act_defs.specs.Acts.{Act, acted}
+use Rattle.world_defs.specs.Acts.{Act, acted}
 use Rattle.world_defs.proofs.Views.{HostChange}
 use Rattle.world_defs.proofs.Calls.{Call, call_view}
-use Rattle.act_defs.proofs.Hosts.{NodeChange, nodes_view, each_node}
+use Rattle.world_defs.proofs.Hosts.{NodeChange, nodes_view, each_node}
 use Rattle.table_laws.specs.Packets.{IsHonest}
 use Rattle.table_laws.proofs.Medium.{Holds}
 use Rattle.table_laws.proofs.Keeping.{holds-read}

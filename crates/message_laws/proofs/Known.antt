@@ -4,8 +4,8 @@ use Rattle.net_defs.specs.Network.{Network}
 use Rattle.world_defs.specs.Node.{port_at}
 use Rattle.world_defs.specs.World.{WorldState, host_count, node_at, client_at}
 use Rattle.world_defs.specs.Sound.{AreOwned}
-use Rattle.act_defs.specs.Acts.{IsReached}
-use Rattle.act_defs.proofs.Cables.{reached-cables}
+use Rattle.world_defs.specs.Acts.{IsReached}
+use Rattle.world_defs.proofs.Cables.{reached-cables}
 use Rattle.owner_laws.proofs.Owners.{always-owned}
 use Rattle.message_laws.proofs.Windows.{IsWindowed, reached-windowed}
 use Rattle.message_laws.proofs.Taken.{reached-world}

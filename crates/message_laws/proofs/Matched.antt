@@ -5,9 +5,9 @@ use Rattle.std.proofs.lemmas.List.{get_or_past}
 use Rattle.net_defs.specs.Network.{Network}
 use Rattle.world_defs.specs.Node.{NodeState, new_node}
 use Rattle.world_defs.specs.World.{WorldState, host_count, new_world, node_at, client_at}
-use Rattle.act_defs.specs.Acts.{Act, acted, IsReached}
+use Rattle.world_defs.specs.Acts.{Act, acted, IsReached}
 use Rattle.message_laws.proofs.Hosts.{Rules, Goes, acted-goes}
-use Rattle.act_defs.proofs.Reaching.{reached-has}
+use Rattle.world_defs.proofs.Reaching.{reached-has}
 use Rattle.message_laws.proofs.Windows.{numbers_of, reached-windowed}
 use Rattle.message_laws.specs.Unfinished.{HasBytes, QueueIsUnfinished, EachSendHasOneTicket}
 use Rattle.ticket_laws.proofs.Keeping.{new-matched}

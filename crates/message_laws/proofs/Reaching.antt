@@ -11,8 +11,8 @@ use Rattle.world_defs.specs.Step.{step, after_all}
 use Rattle.world_defs.specs.Logs.{settle}
 use Rattle.world_laws.specs.Reached.{IsOfSettle}
 use Rattle.world_laws.proofs.Reached.{settle-is_row}
-use Rattle.act_defs.specs.Acts.{Happens, IsReached}
-use Rattle.act_defs.proofs.Reaching.{reached-next}
+use Rattle.world_defs.specs.Acts.{Happens, IsReached}
+use Rattle.world_defs.proofs.Reaching.{reached-next}
 use Rattle.message_laws.specs.Got.{SettleGetsAll}
 use Rattle.message_laws.proofs.Taken.{none-got}
 

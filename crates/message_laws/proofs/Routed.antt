@@ -8,11 +8,11 @@ use Rattle.net_defs.specs.declared.route.Route.{Route}
 use Rattle.net_defs.specs.Network.{Network}
 use Rattle.net_defs.specs.Route.{place}
 use Rattle.cable_history.specs.History.{fabric_at}
-use Rattle.mapping_defs.specs.Mapping.{RouteEntry}
+use Rattle.mapper_bodies.specs.Mapping.{RouteEntry}
 use Rattle.world_defs.specs.Table.{Adoption, ActiveTable, table_route, entries_from}
 use Rattle.world_defs.specs.World.{WorldState, node_at}
-use Rattle.act_defs.specs.Acts.{IsReached}
-use Rattle.act_defs.proofs.Cables.{reached-cables}
+use Rattle.world_defs.specs.Acts.{IsReached}
+use Rattle.world_defs.proofs.Cables.{reached-cables}
 use Rattle.table_laws.specs.Set.{IsActive}
 use Rattle.table_laws.proofs.Sets.{entries-all}
 use Rattle.table_laws.proofs.Steps.{hosts-active}

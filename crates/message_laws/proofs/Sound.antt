@@ -4,7 +4,7 @@ use Rattle.net_defs.specs.Network.{Network}
 use Rattle.world_defs.specs.World.{WorldState, node_at, client_at}
 use Rattle.world_defs.specs.Node.{port_at}
 use Rattle.world_defs.specs.Sound.{IsSound, AreOwned}
-use Rattle.act_defs.specs.Acts.{IsReached}
+use Rattle.world_defs.specs.Acts.{IsReached}
 use Rattle.table_laws.proofs.Dependencies.{installed-no_cycle}
 use Rattle.owner_laws.proofs.Owners.{always-owned}
 use Rattle.message_laws.proofs.Worlds.{got-front}

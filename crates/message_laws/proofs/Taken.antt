@@ -17,9 +17,9 @@ use Rattle.world_defs.specs.Traffic.{sender_on, sent_on, got_on, taken_on}
 use Rattle.world_defs.specs.Settle.{unacknowledged_from, unacknowledged_in}
 use Rattle.world_laws.specs.Shape.{IsWorld}
 use Rattle.world_laws.proofs.Shapes.{step-kept, new-world, adopted-world, planned-world}
-use Rattle.act_defs.specs.Acts.{Act, Happens, Plans, Adopts, acted, IsReached}
+use Rattle.world_defs.specs.Acts.{Act, Happens, Plans, Adopts, acted, IsReached}
 use Rattle.message_laws.specs.Got.{GotIsWholeBelowTaken, AllAcknowledgedIsAllGot, NoneUnacknowledgedIsAllGot}
-use Rattle.act_defs.proofs.Reaching.{reached-has}
+use Rattle.world_defs.proofs.Reaching.{reached-has}
 use Rattle.message_laws.proofs.Worlds.{sent_by_lane, got-front, ordered-come, taken-come}
 use Rattle.message_laws.proofs.Windows.{IsWindowed, reached-windowed}
 

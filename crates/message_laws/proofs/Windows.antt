@@ -12,8 +12,8 @@ use Rattle.gm_defs.specs.declared.frame.Ack.{Ack}
 use Rattle.gm_defs.specs.declared.frame.ConnectionKey.{ConnectionKey}
 use Rattle.gm_defs.specs.declared.frame.GmBody.TheVariants.{Frame, Ack as Acknowledges}
 use Rattle.gm_defs.specs.Body.{is_prio, head_in, ack_in, ack_length, frame_bytes, ack_bytes, begins_with, is_frame, is_ack}
-use Rattle.mapping_defs.specs.Mapping.{mapping_bytes}
-use Rattle.mapping_defs.specs.Mapping.MappingBody.{HostProbe, HostReply, Loopback, Part, PartAck}
+use Rattle.mapper_bodies.specs.Mapping.{mapping_bytes}
+use Rattle.mapper_bodies.specs.Mapping.MappingBody.{HostProbe, HostReply, Loopback, Part, PartAck}
 use Rattle.gm_defs.specs.Fragment.{whole_below, head_of}
 use Rattle.gm_defs.specs.Connection.{SenderState, connection, key_of, ack_on, window}
 use Rattle.gm_defs.proofs.Choices.{both, chosen}
@@ -23,7 +23,7 @@ use Rattle.world_defs.specs.World.{WorldState, new_world, node_at}
 use Rattle.world_defs.specs.Traffic.{sender_on, taken_on}
 use Rattle.world_laws.specs.Shape.{HasSenders}
 use Rattle.world_laws.proofs.Shapes.{step-kept, new-senders, adopted-senders, planned-senders}
-use Rattle.act_defs.specs.Acts.{Act, Happens, Plans, Adopts, acted, MayAct, IsReached}
+use Rattle.world_defs.specs.Acts.{Act, Happens, Plans, Adopts, acted, MayAct, IsReached}
 use Rattle.table_laws.specs.Packets.{Built, IsHonest}
 use Rattle.table_laws.proofs.Medium.{Holds, weaker-holds, empty-holds, carries-honest}
 use Rattle.world_defs.proofs.Lanes.{lane_of-parts, lane_of-place, facing, facing-taking, facing-sending}
@@ -36,8 +36,8 @@ use Rattle.message_laws.proofs.Sends.{IsOut, to_send-out}
 use Rattle.message_laws.proofs.Hosts.{Rules, Goes, acted-goes}
 use Rattle.table_laws.proofs.Keeping.{new-honest, honest-more, HoldsOfNew, acted-holds}
 use Rattle.world_defs.proofs.Lists.{each-replicate}
-use Rattle.act_defs.proofs.Reaching.{reached-has}
-use Rattle.act_defs.proofs.Kept.{may-byte}
+use Rattle.world_defs.proofs.Reaching.{reached-has}
+use Rattle.world_defs.proofs.ActsKept.{may-byte}
 use Rattle.message_laws.proofs.Numbers.{IsWithin, SaysWithin, says-more, due-number, sending, taking, NodeGoes, node-same, hear-goes, sends-goes, expires-goes, call-goes}
 
 -- one past the greatest number that a host ever sent by a lane

@@ -7,7 +7,7 @@ use Rattle.world_defs.specs.Node.{to_send, packet_for, after_sending}
 use Rattle.world_defs.specs.Hearing.{hear}
 use Rattle.world_defs.specs.Client.{begun, provided_by, sent_by, closed}
 use Rattle.world_defs.specs.Step.{planned_strikes, sent_out, injected, advanced}
-use Rattle.act_defs.specs.Acts.{AreAdoptable}
+use Rattle.world_defs.specs.Acts.{AreAdoptable}
 use Rattle.table_laws.specs.Examples.{adopted_world}
 use Rattle.table_laws.proofs.Dependencies.{adopted-adoptable}
 use Rattle.table_laws.proofs.TwoHosts.{adopted-reached}

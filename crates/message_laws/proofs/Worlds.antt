@@ -16,7 +16,7 @@ use Rattle.world_defs.proofs.Lanes.{facing, facing-taking, prio_of-lane, peer_of
 use Rattle.world_defs.specs.World.{WorldState, host_count, new_world, node_at}
 use Rattle.world_defs.specs.Sound.{IsPrefix}
 use Rattle.world_defs.specs.Traffic.{sent_on, got_on, coming_on, taken_on}
-use Rattle.act_defs.specs.Acts.{Act, acted, IsByteAct, IsReached}
+use Rattle.world_defs.specs.Acts.{Act, acted, IsByteAct, IsReached}
 use Rattle.message_laws.specs.Says.{SaysTrue}
 use Rattle.message_laws.specs.Order.{GotIsFrontOfSent, HasCome, TakenHasCome, SentIsOfPriority, FramesAreHonest}
 use Rattle.gm_defs.proofs.Numbers.{none-below}
@@ -24,9 +24,9 @@ use Rattle.message_laws.proofs.Lanes.{IsNumbered, InOrder, order-more}
 use Rattle.message_laws.proofs.Frames.{says-more}
 use Rattle.world_defs.proofs.Views.{HostChange}
 use Rattle.world_defs.proofs.Calls.{call_view}
-use Rattle.act_defs.proofs.Hosts.{NodeChange, nodes_view, each_node}
-use Rattle.act_defs.proofs.Reaching.{reached-has}
-use Rattle.act_defs.proofs.Kept.{acted-plan, may-byte}
+use Rattle.world_defs.proofs.Hosts.{NodeChange, nodes_view, each_node}
+use Rattle.world_defs.proofs.Reaching.{reached-has}
+use Rattle.world_defs.proofs.ActsKept.{acted-plan, may-byte}
 use Rattle.table_laws.specs.Packets.{IsHonest}
 use Rattle.table_laws.proofs.Medium.{Holds, weaker-holds, empty-holds, carries-honest, honest-read}
 use Rattle.table_laws.proofs.Keeping.{holds-read, new-honest, honest-more, acted-holds}

@@ -9,7 +9,7 @@ use Rattle.gm_defs.specs.Connection.{connection, ack_on}
 use Rattle.link_defs.specs.Kinds.{unrouted}
 use Rattle.world_defs.specs.Traffic.{sent_on, got_on, sender_on, taken_on}
 use Rattle.world_defs.specs.Examples.{setup_routes}
-use Rattle.act_defs.specs.Acts.{Act, Happens, Adopts, acted_all, IsReached}
+use Rattle.world_defs.specs.Acts.{Act, Happens, Adopts, acted_all, IsReached}
 use Rattle.packet_defs.specs.declared.kind.Kind.{Kind}
 use Rattle.packet_defs.specs.declared.kind.Kind.TheVariants.{Gm}
 use Rattle.packet_defs.specs.declared.host_drop.HostDrop.{HostDrop}

@@ -10,7 +10,7 @@ use Rattle.gm_defs.specs.Token.{Provided, PortState, is_filling_for}
 use Rattle.world_defs.specs.Node.{port_at}
 use Rattle.world_defs.specs.World.{WorldState, node_at}
 use Rattle.world_defs.specs.Traffic.{sent_on, got_on, coming_on}
-use Rattle.act_defs.specs.Acts.{IsReached}
+use Rattle.world_defs.specs.Acts.{IsReached}
 
 -- the provided tokens of a port, where it is open
 abbrev pub provided_in : Option PortState → List Provided

@@ -7,7 +7,7 @@ use Rattle.world_defs.specs.World.{WorldState}
 use Rattle.world_defs.specs.Traffic.{sender_on, sent_on, got_on, taken_on}
 use Rattle.world_defs.specs.Settle.{unacknowledged_in}
 use Rattle.world_defs.specs.Logs.{settle}
-use Rattle.act_defs.specs.Acts.{IsReached}
+use Rattle.world_defs.specs.Acts.{IsReached}
 
 -- what is got on a connection is the messages that lie wholly below the number of fragments taken
 abbrev pub GotIsWholeBelowTaken : Type 0

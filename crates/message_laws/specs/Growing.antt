@@ -3,7 +3,7 @@ use Rattle.std.specs.Prelude.{◌≡◌, List, [], ◌∷◌, ◌++◌}
 use Rattle.gm_defs.specs.declared.frame.ConnectionKey.{ConnectionKey}
 use Rattle.world_defs.specs.World.{WorldState}
 use Rattle.world_defs.specs.Traffic.{sent_on, got_on}
-use Rattle.act_defs.specs.Acts.{Act, acted}
+use Rattle.world_defs.specs.Acts.{Act, acted}
 
 -- A list stays, or has one element more, after the others.
 pub data GrowsByOne {A : Type 0} (xs ys : List A) : Type 0 where

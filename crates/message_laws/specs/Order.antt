@@ -15,7 +15,7 @@ use Rattle.world_defs.specs.Node.{prio_place}
 use Rattle.world_defs.specs.World.{WorldState}
 use Rattle.world_defs.specs.Sound.{IsPrefix}
 use Rattle.world_defs.specs.Traffic.{sent_on, got_on, coming_on, taken_on}
-use Rattle.act_defs.specs.Acts.{IsReached}
+use Rattle.world_defs.specs.Acts.{IsReached}
 
 -- what was got on a connection is a prefix of what was sent on it
 abbrev pub GotIsFrontOfSent : Type 0

@@ -9,7 +9,7 @@ use Rattle.world_defs.specs.Node.{port_at}
 use Rattle.world_defs.specs.Client.{empty_buffer}
 use Rattle.world_defs.specs.World.{WorldState, node_at}
 use Rattle.world_defs.specs.Traffic.{got_on}
-use Rattle.act_defs.specs.Acts.{IsReached}
+use Rattle.world_defs.specs.Acts.{IsReached}
 
 -- What a received event says is of a message that was got from there, of its priority, for its port: the message's
 -- bytes stand in front, and after them the zero bytes of the buffer that was provided, which is of the least size

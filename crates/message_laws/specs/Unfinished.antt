@@ -6,7 +6,7 @@ use Rattle.gm_defs.specs.Token.{Sending, PortState}
 use Rattle.world_defs.specs.Lane.{Ticket}
 use Rattle.world_defs.specs.Node.{NodeState, port_at}
 use Rattle.world_defs.specs.World.{WorldState, node_at}
-use Rattle.act_defs.specs.Acts.{IsReached}
+use Rattle.world_defs.specs.Acts.{IsReached}
 use Rattle.ticket_laws.specs.Tickets.{HasOneTicket, AreMatched}
 use Rattle.ticket_laws.specs.Host.{send_under, tickets_of, unfinished_of}
 

@@ -14,7 +14,7 @@ use Rattle.world_defs.specs.Client.{ClientState, empty_buffer}
 use Rattle.world_defs.specs.World.{WorldState, node_at, client_at}
 use Rattle.world_defs.specs.Sound.{IsEachOnce}
 use Rattle.world_defs.specs.Step.{step}
-use Rattle.act_defs.specs.Acts.{IsReached}
+use Rattle.world_defs.specs.Acts.{IsReached}
 
 -- how many bytes of a message a token holds
 abbrev pub held_in : Option Filling → ℕ

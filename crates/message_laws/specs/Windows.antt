@@ -5,7 +5,7 @@ use Rattle.gm_defs.specs.declared.frame.ConnectionKey.{ConnectionKey}
 use Rattle.gm_defs.specs.Connection.{SenderState, IsSender, window}
 use Rattle.world_defs.specs.World.{WorldState}
 use Rattle.world_defs.specs.Traffic.{sender_on, taken_on, IsHonestTraffic}
-use Rattle.act_defs.specs.Acts.{IsReached}
+use Rattle.world_defs.specs.Acts.{IsReached}
 
 -- The numbers of a connection: the sender's are in order, what is acknowledged was taken, what was taken was sent,
 -- and at most a window of fragments was sent and isn't acknowledged.

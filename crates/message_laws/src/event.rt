@@ -1,4 +1,4 @@
-//! The events of ports: `specs/Received.antt` has the statement. Of which message a sent event is says `return_laws`.
+//! The events of ports: `specs/Received.antt` has the statement. Of which message a sent event is says `client_laws`.
 
 ghost use Rattle.message_laws.specs.Received.{ReceivedEventsAreOfMessages};
 

@@ -2,9 +2,9 @@
 //! another and of one priority, and in the ports at both of its ends.
 //!
 //! It holds no connection and no port: that is `gm_conn` and `gm_port`. It leaves out that each token has one owner,
-//! which is `owner_laws`, when sends, tickets and messages of one host are matched, which is `ticket_laws`, what
-//! clients saw of all this, which is `seen_laws`, and with which message a send token comes back, which is
-//! `return_laws`. Read `specs/Order.antt` first.
+//! which is `owner_laws`, when sends, tickets and messages of one host are matched, which is `ticket_laws`, and what
+//! clients saw of all this, and with which message a send token comes back, which is `client_laws`. Read
+//! `specs/Order.antt` first.
 //!
 //! | file of `specs/` | says |
 //! |---|---|

@@ -4,9 +4,8 @@ ghost use Rattle.std.specs.Prelude.{◌≡◌, ◌≤◌, ◌∷◌, [], length,
 ghost use Rattle.packet_defs.specs.Packet.{packet_of, head_of, with_crc, type_of};
 
 use crate::packet::Packet;
-use packet_defs::Kind;
+use packet_defs::{Kind, push_turns};
 use std::alloc::{AllocError, Global};
-use turn_bytes::push_turns;
 
 /// The packet of a route, a kind and a payload, with the CRC that is due. Its turns are from -15 to 15: another has
 /// no route byte, and its byte stops the packet, or turns it elsewhere.

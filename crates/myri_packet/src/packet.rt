@@ -9,9 +9,9 @@ ghost use Rattle.myri_packet.specs.Refusals.{wire_refusal, flip_refusal};
 
 use bytes::{Buf, BytesMut};
 use crc_eight::crc;
+use packet_defs::turn_of;
 use std::alloc::{AllocError, Global};
 use std::marker::Model;
-use turn_bytes::turn_of;
 
 /// The most bytes of a packet: 64 route bytes, the type, a payload of 1,040 bytes, and the CRC.
 pub const MAX_BYTES: usize = 1107;

@@ -5,7 +5,7 @@ use Rattle.world_defs.specs.Lane.{LaneState}
 use Rattle.world_defs.specs.Node.{Staged, StagedProbe, StagedPart, StagedReply, StagedAck, NodeState, with_lane, to_send, after_sending}
 use Rattle.host_items.specs.Held.{HostItems, first_of, without_first, with_items}
 use Rattle.route_install.specs.Collecting.{HostTable}
-use Rattle.host_lanes.specs.Lanes.{HostLanes, with_state}
+use Rattle.gm_conn.specs.Lanes.{HostLanes, with_state}
 use Rattle.host_ports.specs.Held.{HostPorts}
 use Rattle.nic_node.specs.declared.next.NextSend.{NextSend}
 use Rattle.nic_node.specs.declared.next.NextSend.TheVariants.{Item}

@@ -4,8 +4,8 @@ use Rattle.std.specs.Prelude.{is_some}
 use Rattle.std.proofs.lemmas.Bool.Decides.{nat_tests}
 use Rattle.std.specs.List.{range_with_len}
 use Rattle.world_defs.specs.Node.{Outgoing, either, first_some, lanes_of}
-use Rattle.host_lanes.specs.Lanes.{NoneBetween, IsNext}
-use Rattle.host_lanes.specs.Lanes.IsNext.{next, nobody_left}
+use Rattle.gm_conn.specs.Lanes.{NoneBetween, IsNext}
+use Rattle.gm_conn.specs.Lanes.IsNext.{next, nobody_left}
 use Rattle.nic_node.specs.Held.{HostNode}
 
 -- there is nothing for any lane below a number

@@ -11,8 +11,8 @@ use Rattle.world_defs.specs.Node.{NodeState, Fragment, lane_at, lane_route, due_
 use Rattle.host_items.specs.Held.{HostItems}
 use Rattle.route_install.specs.Collecting.{HostTable}
 use Rattle.host_ports.specs.Held.{HostPorts, unfinished_at}
-use Rattle.host_lanes.specs.Lane.{AreNumbered, head_of_frame, ticket_of}
-use Rattle.host_lanes.specs.Lanes.{HostLanes, lane_in}
+use Rattle.gm_conn.specs.Lane.{AreNumbered, head_of_frame, ticket_of}
+use Rattle.gm_conn.specs.Lanes.{HostLanes, lane_in}
 use Rattle.ticket_laws.specs.Host.{send_under, IsInBuffer}
 use Rattle.ticket_laws.proofs.Backing.{backed-buffer}
 use Rattle.nic_node.specs.Held.{HostNode, state_of, AreOfHost}

@@ -8,8 +8,8 @@ use Rattle.world_defs.specs.Node.{NodeState, lane_count, new_node}
 use Rattle.world_defs.specs.Hearing.{messages_read, hear_body}
 use Rattle.host_items.specs.Held.{HostItems}
 use Rattle.route_install.specs.Collecting.{HostTable}
-use Rattle.host_lanes.specs.Lane.{AreNumbered}
-use Rattle.host_lanes.specs.Lanes.{HostLanes, lane_in}
+use Rattle.gm_conn.specs.Lane.{AreNumbered}
+use Rattle.gm_conn.specs.Lanes.{HostLanes, lane_in}
 use Rattle.host_ports.specs.Held.{HostPorts}
 use Rattle.ticket_laws.specs.Host.{Begins, IsBacked}
 use Rattle.ticket_laws.proofs.Backing.{heard-backed}

@@ -21,8 +21,8 @@ use Rattle.host_ports.specs.declared.ask.NodeClose.{NodeClose}
 use Rattle.host_ports.specs.Held.{HostPorts, none_open, open_at, with_open, changed}
 use Rattle.host_ports.specs.Refusal.{begin_bar, send_bar, close_word, close_bar}
 use Rattle.route_install.specs.Collecting.{HostTable}
-use Rattle.host_lanes.specs.Lane.{AreNumbered}
-use Rattle.host_lanes.specs.Lanes.{HostLanes, all_unused, lane_in, with_state, both_expired}
+use Rattle.gm_conn.specs.Lane.{AreNumbered}
+use Rattle.gm_conn.specs.Lanes.{HostLanes, all_unused, lane_in, with_state, both_expired}
 use Rattle.ticket_laws.specs.Host.{Begins, IsBacked}
 use Rattle.ticket_laws.proofs.Hosts.{CanAccept}
 use Rattle.ticket_laws.proofs.Keeping.{host_of}

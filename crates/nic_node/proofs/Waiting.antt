@@ -7,7 +7,7 @@ use native.Mathlib.Decide.{dec_lt}
 use Rattle.gm_defs.specs.Connection.{unacknowledged}
 use Rattle.world_defs.specs.Lane.{new_lane}
 use Rattle.world_defs.specs.Node.{NodeState, lane_of, unacknowledged_on, unacknowledged_to}
-use Rattle.host_lanes.specs.Lanes.{IsNext}
+use Rattle.gm_conn.specs.Lanes.{IsNext}
 use Rattle.nic_node.proofs.Choosing.{Found, found}
 
 -- something isn't acknowledged on a lane

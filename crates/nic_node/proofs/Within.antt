@@ -16,7 +16,7 @@ use Rattle.world_defs.specs.Lane.{Ticket, finished_by, tickets_finished, lane_ac
 use Rattle.world_defs.specs.Node.{NodeState}
 use Rattle.world_defs.specs.Hearing.{ack_lane, all_finished, ack_heard}
 use Rattle.host_ports.specs.Held.{HostPorts, changed}
-use Rattle.host_lanes.specs.Lanes.{HostLanes, lane_in, with_state}
+use Rattle.gm_conn.specs.Lanes.{HostLanes, lane_in, with_state}
 use Rattle.nic_node.specs.Messages.{with_messages, delivered_in, finished_in}
 
 -- one ticket more, or none

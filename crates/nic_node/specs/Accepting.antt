@@ -14,7 +14,7 @@ use Rattle.host_ports.specs.declared.ask.PortSend.TheVariants.{NotOpen as PortNo
 use Rattle.host_ports.specs.declared.ask.PortSend.TheVariants.{BufferShort as PortShort}
 use Rattle.host_ports.specs.Held.{HostPorts, open_at}
 use Rattle.host_ports.specs.Refusal.{send_bar as port_bar}
-use Rattle.host_lanes.specs.Lanes.{HostLanes, lane_in, with_state}
+use Rattle.gm_conn.specs.Lanes.{HostLanes, lane_in, with_state}
 use Rattle.nic_node.specs.declared.refusal.NodeSend.{NodeSend}
 use Rattle.nic_node.specs.declared.refusal.NodeSend.TheVariants.{NotOpen, TooLong, BufferShort, NoRoute, Spent}
 use Rattle.nic_node.specs.Held.{HostNode}

@@ -4,7 +4,7 @@ use Rattle.world_defs.specs.Node.{NodeState, new_node}
 use Rattle.ticket_laws.specs.Host.{Begins, IsBacked}
 use Rattle.host_items.specs.Held.{HostItems}
 use Rattle.route_install.specs.Collecting.{HostTable}
-use Rattle.host_lanes.specs.Lanes.{HostLanes}
+use Rattle.gm_conn.specs.Lanes.{HostLanes}
 use Rattle.host_ports.specs.Held.{HostPorts}
 
 -- A host, among so many hosts, in a state.

@@ -7,7 +7,7 @@ use Rattle.gm_defs.specs.Port.{delivered, finished}
 use Rattle.world_defs.specs.Lane.{Ticket}
 use Rattle.world_defs.specs.Node.{NodeState}
 use Rattle.host_ports.specs.Held.{HostPorts, changed}
-use Rattle.host_lanes.specs.Lanes.{HostLanes}
+use Rattle.gm_conn.specs.Lanes.{HostLanes}
 
 -- a host of the world with these lanes and ports
 abbrev pub with_messages : NodeState → HostLanes → HostPorts → NodeState

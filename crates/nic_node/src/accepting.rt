@@ -9,12 +9,12 @@ ghost use Rattle.gm_tokens.specs.Token.{token_at};
 ghost use Rattle.world_defs.specs.Node.{lane_of};
 ghost use Rattle.host_ports.specs.Held.{open_at, changed};
 ghost use Rattle.host_ports.specs.Refusal.{send_bar};
-ghost use Rattle.host_lanes.specs.Lanes.{lane_in};
+ghost use Rattle.gm_conn.specs.Lanes.{lane_in};
 ghost use Rattle.nic_node.specs.Accepting.{accepted_in, message_bar, node_bar, port_word};
 
 use crate::refusal::NodeSend;
+use gm_conn::{Envelope, Lanes, OfferRefusal};
 use gm_tokens::{SendToken, is_too_long};
-use host_lanes::{Envelope, Lanes, OfferRefusal};
 use host_ports::{PortSend, Ports, SendAsk};
 use reg_mem::Reg;
 use std::alloc::Global;

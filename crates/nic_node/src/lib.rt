@@ -30,8 +30,8 @@ mod refusal;
 mod sending;
 mod unacked;
 
+pub use gm_conn::Message;
 pub use host_items::{Packet, RoutePart};
-pub use host_lanes::Message;
 pub use host_ports::{NodeBegin, NodeClose, NodeProvide, NotOpen, PortEvent, SendAsk, Wreck};
 pub use node::NicNode;
 pub use refusal::NodeSend;

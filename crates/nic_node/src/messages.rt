@@ -8,9 +8,9 @@ ghost use Rattle.world_defs.specs.Hearing.{ack_heard, messages_read, hear_body};
 ghost use Rattle.host_ports.specs.Held.{open_at};
 ghost use Rattle.nic_node.specs.Messages.{with_messages, delivered_in, finished_in};
 
+use gm_conn::{Lane, Lanes};
 use gm_defs::Took;
 use gm_frame::{Ack, FrameHead, GmBody, decode, part_of};
-use host_lanes::{Lane, Lanes};
 use host_ports::Ports;
 use packet_defs::HostDrop;
 use std::alloc::{AllocError, Global};

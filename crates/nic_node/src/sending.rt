@@ -5,14 +5,14 @@ ghost use Rattle.std.specs.Prelude.{IfOk, OnErr};
 ghost use Rattle.packet_defs.specs.Packet.{packet_of};
 ghost use Rattle.gm_defs.specs.Body.{is_prio, is_head, frame_bytes, ack_bytes};
 ghost use Rattle.world_defs.specs.Node.{owed_on, due_frame, due_on, to_send, packet_for, lane_at};
-ghost use Rattle.host_lanes.specs.Lane.{head_of_frame, ticket_of};
+ghost use Rattle.gm_conn.specs.Lane.{head_of_frame, ticket_of};
 ghost use Rattle.nic_node.specs.Held.{in_state};
 ghost use Rattle.nic_node.specs.Sending.{after_first};
 
 use crate::next::NextSend;
 use crate::node::NicNode;
+use gm_conn::{Ack, DueFrame, FrameHead};
 use gm_frame::{ACK_LENGTH, FRAME_LENGTH, append_ack, append_frame};
-use host_lanes::{Ack, DueFrame, FrameHead};
 use myri_packet::{Kind, Packet, packet_front, seal};
 use net_defs::Walk;
 use std::alloc::{AllocError, Global};

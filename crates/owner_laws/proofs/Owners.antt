@@ -13,7 +13,7 @@ use Rattle.world_defs.specs.Sound.{AreOwned}
 use Rattle.world_laws.specs.Shape.{IsWorld}
 use Rattle.world_laws.proofs.Lists.{at-set, two-set}
 use Rattle.world_laws.proofs.Shapes.{step-kept, new-world, adopted-world, planned-world}
-use Rattle.act_defs.specs.Acts.{Act, Happens, Plans, Adopts, acted, acted_all}
+use Rattle.world_defs.specs.Acts.{Act, Happens, Plans, Adopts, acted, acted_all}
 use Rattle.owner_laws.proofs.Hosts.{NodeOwned, node-same, hear-owned, after_sending-owned}
 use Rattle.world_defs.proofs.Lists.{each-replicate}
 use Rattle.world_defs.proofs.Views.{HostChange, Change, view}

@@ -7,7 +7,7 @@ use Rattle.world_defs.specs.declared.event.Event.TheVariants.{Begin, Provide, Se
 use Rattle.world_defs.specs.Node.{port_at}
 use Rattle.world_defs.specs.World.{WorldState, new_world, node_at, client_at}
 use Rattle.world_defs.specs.Examples.{setup_routes}
-use Rattle.act_defs.specs.Acts.{Act, Happens, Adopts, acted_all}
+use Rattle.world_defs.specs.Acts.{Act, Happens, Adopts, acted_all}
 
 -- host 0 opens port 3, provides a buffer and sends five bytes to host 1
 abbrev pub busy_acts : List Act

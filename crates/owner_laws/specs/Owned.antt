@@ -4,7 +4,7 @@ use Rattle.net_defs.specs.Network.{Network}
 use Rattle.world_defs.specs.Node.{port_at}
 use Rattle.world_defs.specs.World.{new_world, node_at, client_at}
 use Rattle.world_defs.specs.Sound.{AreOwned}
-use Rattle.act_defs.specs.Acts.{Act, acted_all}
+use Rattle.world_defs.specs.Acts.{Act, acted_all}
 
 -- Each token of an open port stands in one place, once: with the client, with a send, with a provided buffer, or in
 -- an event. It is so after every list of acts, also of acts that name a host or a port that isn't there.

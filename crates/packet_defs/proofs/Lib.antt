@@ -8,3 +8,4 @@ pub mod Packets
 pub mod Reduced
 pub mod Remainders
 pub mod RouteBytes
+pub mod Reading

@@ -6,3 +6,4 @@ pub mod Host
 pub mod Laws
 pub mod Packet
 pub mod RouteByte
+pub mod Reading

@@ -1,2 +1,4 @@
 pub mod Laws
 pub mod Offset
+pub mod Ends
+pub mod Kept

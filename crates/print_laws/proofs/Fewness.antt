@@ -17,8 +17,8 @@ use Rattle.map_defs.specs.declared.vertex.MapCable.{MapCable}
 use Rattle.map_defs.specs.NetMap.{NetMap, MapPort, IsMap, map_ends}
 use Rattle.map_defs.specs.Quotient.{IsQuotient}
 use Rattle.map_defs.proofs.TwoHosts.{itself_not_below}
-use Rattle.growth_laws.proofs.Few.{found_walks, found-length, node-found}
-use Rattle.growth_laws.proofs.Pigeons.{no-more, few-below, member-map-all}
+use Rattle.map_laws.proofs.Few.{found_walks, found-length, node-found}
+use Rattle.map_laws.proofs.Pigeons.{no-more, few-below, member-map-all}
 use Rattle.map_laws.proofs.Least.{vertex-count}
 use Rattle.map_laws.proofs.OneMap.{AreRising, rising-places}
 

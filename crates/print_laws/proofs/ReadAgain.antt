@@ -9,8 +9,8 @@ use Rattle.map_canon.proofs.OfFabric.{each-of_fabric}
 use Rattle.map_canon.proofs.ReadBack.{map-read-back}
 use Rattle.world_defs.specs.World.{fabric_of}
 use Rattle.mapping_laws.proofs.Made.{at-limit, found_is_there, made_map_is_map}
-use Rattle.circ_class_laws.proofs.Telling.{circuit-true}
-use Rattle.circ_map_laws.proofs.Ruled.{circuit_map_is_map, few-kept, kept-host}
+use Rattle.circ_laws.proofs.Telling.{circuit-true}
+use Rattle.circ_laws.proofs.Ruled.{circuit_map_is_map, few-kept, kept-host}
 use Rattle.print_laws.specs.Printed.{IsPrintable, MadeMapIsPrintable, CircuitMapIsPrintable, PrintableIsReadAgain}
 use Rattle.print_laws.proofs.Fewness.{few-vertices, few-nodes, few-cables}
 use Rattle.print_laws.proofs.Hosts.{host-there, hosts-of_fabric}

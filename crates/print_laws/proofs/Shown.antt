@@ -12,7 +12,7 @@ use Rattle.journal_defs.specs.Growth.IsGrowing.{nothing, more}
 use Rattle.map_defs.specs.NetMap.{NetMap}
 use Rattle.map_defs.specs.Quotient.{IsQuotient}
 use Rattle.map_defs.specs.Core.{core_of}
-use Rattle.growth_laws.proofs.OneJournal.{grown_journal_is_one}
+use Rattle.map_laws.proofs.OneJournal.{grown_journal_is_one}
 use Rattle.map_laws.proofs.OneMap.{quotient_is_one}
 use Rattle.map_laws.proofs.Alike.{cabled-there}
 use Rattle.cable_history.proofs.Now.{now_is_fabric}

@@ -15,10 +15,10 @@ use Rattle.journal_defs.proofs.Standing.{node-stands, host-stands, stand, same_e
 use Rattle.map_defs.specs.NetMap.{NetMap, MapPort, IsCabled, host_of_vertex}
 use Rattle.map_defs.specs.Quotient.{IsQuotient}
 use Rattle.map_defs.specs.Sameness.{Joined, address_of}
-use Rattle.growth_laws.proofs.Closing.{in-part}
+use Rattle.map_laws.proofs.Closing.{in-part}
 use Rattle.map_laws.proofs.Assembly.{vertex_of_end, port_of_end, end_at, image_by, offset_by, joined-moved}
 use Rattle.map_laws.proofs.Least.{below-vertex, vertex-host}
-use Rattle.circ_class_laws.proofs.Lifts.{node-host}
+use Rattle.circ_laws.proofs.Lifts.{node-host}
 use Rattle.print_laws.specs.Standing.{StandsOver}
 
 -- a vertex of the map with its least node

@@ -4,14 +4,14 @@ ghost use Rattle.std.specs.Prelude.{◌≡◌, ◌≤◌, ◌++◌, ◌∷◌, �
 ghost use Rattle.net_defs.specs.Turn.{IsTurn};
 ghost use Rattle.net_defs.specs.Refusal.{Refuses};
 ghost use Rattle.packet_defs.specs.RouteByte.{route_byte};
-ghost use Rattle.mapping_defs.specs.Mapping.{MappingBody, mapping_bytes};
+ghost use Rattle.mapper_bodies.specs.Mapping.{MappingBody, mapping_bytes};
 ghost use Rattle.probe.specs.Body.{said, probe_in, body_refusal};
 
 use crate::fields::{append_numbers, numbers, numbers_front, whole_numbers};
 use crate::whole_route::whole_route;
 use net_defs::Walk;
+use packet_defs::push_route;
 use std::alloc::{AllocError, Global};
-use turn_bytes::push_route;
 
 /// What a packet of a mapper's ask says. `number` is that of the probe's injection; a reply carries the number of its
 /// probe.

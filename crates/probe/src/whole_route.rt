@@ -2,14 +2,14 @@
 
 ghost use Rattle.std.specs.Prelude.{◌≡◌, Some, IfOk};
 ghost use Rattle.net_defs.specs.Refusal.{Refuses};
-ghost use Rattle.mapping_defs.specs.Mapping.{route_front, whole};
+ghost use Rattle.mapper_bodies.specs.Mapping.{route_front, whole};
 ghost use Rattle.probe.specs.Body.{missing};
 ghost use Rattle.probe.specs.declared.body.BodyFault.{BodyFault};
 
 use crate::body::BodyFault;
 use net_defs::Walk;
+use packet_defs::{TurnFault, walk_of};
 use std::alloc::Global;
-use turn_bytes::{TurnFault, walk_of};
 
 // The most turns of a route.
 const MAX_TURNS: usize = 64;

@@ -3,7 +3,7 @@ use Rattle.std.proofs.Common.{◌≡◌, List, [], ◌∷◌, ◌++◌, refl, sy
 use Rattle.net_defs.specs.Network.{Network}
 use Rattle.world_defs.specs.World.{WorldState, new_world}
 use Rattle.world_defs.specs.Sound.{IsSound}
-use Rattle.act_defs.specs.Acts.{Act, acted, acted_all, MayActAll, IsReached}
+use Rattle.world_defs.specs.Acts.{Act, acted, acted_all, MayActAll, IsReached}
 use Rattle.run_laws.proofs.Reaching.{run-led, deed-may}
 use Rattle.promise_laws.specs.CommandActs.{DeedsAreSingleActs, ActsReach, RunsEndSound}
 use Rattle.promise_laws.proofs.OneAction.{acts_are_one_action}

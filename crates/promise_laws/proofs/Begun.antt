@@ -7,9 +7,9 @@ use Rattle.journal_defs.specs.Tree.{nodes, reached}
 use Rattle.journal_defs.specs.Growth.{IsGrowing, IsGrown, IsEndedByDepth, IsEndedAtLimit, NextAsk, node_limit}
 use Rattle.journal_defs.specs.Growth.IsGrowing.{nothing, more}
 use Rattle.journal_defs.proofs.Asking.{next_ask_is_unique, no_ask_at_the_end}
-use Rattle.growth_laws.proofs.Asks.{ByLast, by_last, push-parts}
-use Rattle.growth_laws.proofs.Asks.ByLast.{empty, pushed}
-use Rattle.growth_laws.proofs.OneJournal.{reached-more}
+use Rattle.map_laws.proofs.Asks.{ByLast, by_last, push-parts}
+use Rattle.map_laws.proofs.Asks.ByLast.{empty, pushed}
+use Rattle.map_laws.proofs.OneJournal.{reached-more}
 use Rattle.world_defs.specs.declared.event.Event.{Event}
 use Rattle.world_defs.specs.EightBits.{IsByteEvent}
 use Rattle.world_defs.specs.World.{WorldState}

@@ -9,7 +9,7 @@ use Rattle.world_defs.specs.declared.event.Event.{Event}
 use Rattle.world_defs.specs.World.{WorldState, adopted_by}
 use Rattle.world_defs.specs.Step.{after_all}
 use Rattle.world_defs.specs.Sound.{IsSound}
-use Rattle.act_defs.specs.Acts.{Act, Happens, acted_all, MayActAll}
+use Rattle.world_defs.specs.Acts.{Act, Happens, acted_all, MayActAll}
 use Rattle.world_defs.specs.Logs as log
 use Rattle.world_defs.specs.Row.{IsPartWay}
 use Rattle.run_defs.specs.declared.command.Command.{Command}

@@ -3,7 +3,7 @@ use Rattle.std.proofs.Common.{◌≡◌, ◌⊎◌, inl, inr, List, [], ◌∷�
 use Rattle.std.specs.List.{AllByRecursion}
 use Rattle.net_defs.specs.Network.{Network}
 use Rattle.world_defs.specs.World.{WorldState}
-use Rattle.act_defs.specs.Acts.{Act, acted_all}
+use Rattle.world_defs.specs.Acts.{Act, acted_all}
 use Rattle.duo_defs.specs.declared.event.DuoEvent.{DuoEvent}
 use Rattle.duo_defs.specs.declared.event.DuoEvent.TheVariants.{Poll as DuoPoll}
 use Rattle.duo_defs.specs.declared.effect.DuoEffect.{DuoEffect}

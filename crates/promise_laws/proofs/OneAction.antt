@@ -28,8 +28,8 @@ use Rattle.world_defs.proofs.Lists.{each-set}
 use Rattle.world_defs.proofs.Views.{Change, LinksChange, HostChange, CallChange, view}
 use Rattle.world_defs.proofs.Strikes.{Strike, strike_view, injection-nodes, injection-clients}
 use Rattle.world_laws.proofs.Idling.{step-idle}
-use Rattle.act_defs.specs.Acts.{Act, Happens, Plans, Adopts, acted}
-use Rattle.act_defs.proofs.Kept.{acted-kept}
+use Rattle.world_defs.specs.Acts.{Act, Happens, Plans, Adopts, acted}
+use Rattle.world_defs.proofs.ActsKept.{acted-kept}
 use Rattle.promise_laws.specs.OneAction.{Actor, OfHost, OfAdopter, OfChannel, OfCable, OfNone, staged_by, caught_in, cable_of, actor_of_event, actor_of, port_called, ChannelStays, GoesOn, IsOfHost, IsOfAdopter, IsOfChannel, IsOfNone, IsActionOf, RoutesStay, IsPulledAsPlanned, CablesStay, IdleStays, ActsAreOneAction}
 use Rattle.promise_laws.proofs.OneChannel.{channel-same, SameBut, with_packet-same, repeat-same, hold-same, flip-same, replay-same, pulled-same, plugged-same, sent-plan, injection-same}
 

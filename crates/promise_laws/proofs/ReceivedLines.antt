@@ -25,7 +25,7 @@ use Rattle.world_defs.specs.Step.{wanted, step}
 use Rattle.world_defs.specs.Log.{Log}
 use Rattle.world_defs.specs.Logs as log
 use Rattle.world_defs.proofs.LogRows.{SettlesBy, AsksBy, settle-row, asks-row, install-row}
-use Rattle.act_defs.specs.Acts.{Act, Happens, Plans, Adopts, acted, acted_all, MayActAll, IsReached}
+use Rattle.world_defs.specs.Acts.{Act, Happens, Plans, Adopts, acted, acted_all, MayActAll, IsReached}
 use Rattle.run_defs.specs.declared.command.Command.{Command}
 use Rattle.run_defs.specs.declared.command.Command.TheVariants.{Walk, Map, Circuit, Routes, Install, Begin as BeginCommand, Close as CloseCommand, Poll as PollCommand, Tokens, Provide as ProvideCommand, Send as SendCommand, Plan, Step, Settle, Finish, Duo, Pull as PullCommand, Plug as PlugCommand, Revoke as RevokeCommand, Broken}
 use Rattle.run_defs.specs.declared.command.StepLine.{StepLine}
@@ -50,11 +50,11 @@ use Rattle.run_defs.specs.Run.Runs.{ended, goes_on}
 use Rattle.run_laws.specs.Acts.{IsActOf}
 use Rattle.run_laws.proofs.RunsOnce.{runs-more}
 use Rattle.message_laws.proofs.HostTickets.{all-front}
-use Rattle.seen_laws.specs.Handed.{handed_by, handed_in, waiting_in, IsOfConnection, is_on, is_to, as_handed, accepted_by, accepted_in}
-use Rattle.seen_laws.proofs.Accepted.{IsNoSend, none-accepted, accepted-sent}
-use Rattle.seen_laws.proofs.Fronts.{polled-front}
-use Rattle.seen_laws.proofs.Others.{seen-of_connections}
-use Rattle.seen_laws.proofs.Polled.{IsNoPoll, none-handed, polled-got}
+use Rattle.client_laws.specs.Handed.{handed_by, handed_in, waiting_in, IsOfConnection, is_on, is_to, as_handed, accepted_by, accepted_in}
+use Rattle.client_laws.proofs.Accepted.{IsNoSend, none-accepted, accepted-sent}
+use Rattle.client_laws.proofs.Fronts.{polled-front}
+use Rattle.client_laws.proofs.Others.{seen-of_connections}
+use Rattle.client_laws.proofs.Polled.{IsNoPoll, none-handed, polled-got}
 use Rattle.promise_laws.specs.ReceivedLines.{received_in_line, received_in, send_answer, send_answers, is_send, accepted_as, accepted_by_lines, accepted_of, RunsReceiveAsSent}
 use Rattle.promise_laws.proofs.Acting.{acted-append, may-append, deeds_are_single_acts}
 

@@ -17,7 +17,7 @@ use Rattle.world_defs.specs.Node.{new_node}
 use Rattle.world_defs.specs.World.{WorldState, host_count, node_at, addresses}
 use Rattle.world_defs.specs.Step.{step, followed_by, steps, revoke_of, revoked, gives_up_epoch}
 use Rattle.world_laws.proofs.Lists.{at-set}
-use Rattle.act_defs.specs.Acts.{IsReached}
+use Rattle.world_defs.specs.Acts.{IsReached}
 use Rattle.table_laws.proofs.Dependencies.{tables-of_set}
 use Rattle.run_defs.specs.declared.command.Command.TheVariants.{Revoke}
 use Rattle.run_defs.specs.Outcome.{Outcome, is_done, revocations, revoke_lines, happening, seen}

@@ -1,7 +1,7 @@
 -- Every moment is sound, and so every run keeps its promise.
 use Rattle.std.proofs.Common.{refl}
 use Rattle.world_defs.specs.World.{new_world}
-use Rattle.act_defs.specs.Acts.{acted_all}
+use Rattle.world_defs.specs.Acts.{acted_all}
 use Rattle.message_laws.proofs.Sound.{reached-sound}
 use Rattle.mapping_laws.proofs.Printed.{complete_maps_are_true, deep_maps_are_complete}
 use Rattle.promise_laws.specs.Promised.{MomentsAreSound, RunsArePromised}

@@ -5,7 +5,7 @@ use Rattle.world_defs.specs.Client.{begun, sent_by}
 use Rattle.world_defs.specs.Step.{planned_strikes, sent_out, injected, advanced, held, revoked}
 use Rattle.net_defs.specs.Examples.{two_hosts}
 use Rattle.world_defs.specs.Examples.{setup_routes}
-use Rattle.act_defs.specs.Acts.{AreAdoptable}
+use Rattle.world_defs.specs.Acts.{AreAdoptable}
 use Rattle.table_laws.specs.Examples.{adopted_world}
 use Rattle.table_laws.proofs.Dependencies.{adopted-adoptable}
 use Rattle.table_laws.proofs.TwoHosts.{adopted-reached}

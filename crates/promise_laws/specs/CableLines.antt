@@ -7,7 +7,7 @@ use Rattle.cable_history.specs.History.{cable_limit, with_plugged}
 use Rattle.cable_history.specs.Crossed.{pulled_at}
 use Rattle.world_defs.specs.Table.{Adoption, has_revoked}
 use Rattle.world_defs.specs.World.{WorldState, fabric_of, host_count, node_at}
-use Rattle.act_defs.specs.Acts.{IsReached}
+use Rattle.world_defs.specs.Acts.{IsReached}
 use Rattle.run_defs.specs.declared.command.Command.TheVariants.{Pull, Plug, Revoke}
 use Rattle.run_defs.specs.declared.line.PlugWords.{PlugWords}
 use Rattle.run_defs.specs.declared.line.PlugWords.TheVariants.{Done, PortUsed, Full}

@@ -4,7 +4,7 @@ use Rattle.std.specs.List.{AllByRecursion}
 use Rattle.net_defs.specs.Network.{Network, IsFabric}
 use Rattle.world_defs.specs.World.{WorldState}
 use Rattle.world_defs.specs.Sound.{IsSound}
-use Rattle.act_defs.specs.Acts.{Act, acted_all, MayActAll, IsReached}
+use Rattle.world_defs.specs.Acts.{Act, acted_all, MayActAll, IsReached}
 use Rattle.run_defs.specs.declared.command.Command.{Command}
 use Rattle.run_defs.specs.Deed.{Deed}
 use Rattle.run_defs.specs.Output.{Piece}

@@ -7,7 +7,7 @@ use Rattle.journal_defs.specs.Tree.{nodes}
 use Rattle.journal_defs.specs.Growth.{IsGrowing, IsEndedAtLimit, NextAsk, node_limit}
 use Rattle.world_defs.specs.World.{WorldState}
 use Rattle.world_defs.specs.Sound.{IsPrefix, IsSound}
-use Rattle.act_defs.specs.Acts.{Act, acted_all}
+use Rattle.world_defs.specs.Acts.{Act, acted_all}
 use Rattle.world_defs.specs.Logs as log
 use Rattle.world_defs.specs.Row.{IsPartWay}
 use Rattle.run_defs.specs.declared.command.Command.{Command}

@@ -16,14 +16,14 @@ use Rattle.world_defs.specs.declared.event.Event.TheVariants.{Send, Pull, Plug}
 use Rattle.world_defs.specs.Table.{active_epoch}
 use Rattle.world_defs.specs.World.{WorldState, new_world, node_at, epoch_of}
 use Rattle.world_defs.specs.Examples.{setup_routes}
-use Rattle.act_defs.specs.Acts.{Act, Happens, Adopts, acted_all, MayActAll}
+use Rattle.world_defs.specs.Acts.{Act, Happens, Adopts, acted_all, MayActAll}
 use Rattle.run_defs.specs.declared.command.Command.{Command}
 use Rattle.run_defs.specs.declared.command.Command.TheVariants.{Provide, Send as SendCommand, Settle, Poll, Finish}
 use Rattle.run_defs.specs.declared.line.ClientCall.TheVariants.{Send as SendCall}
 use Rattle.run_defs.specs.declared.line.Line.TheVariants.{Client}
 use Rattle.run_defs.specs.Output.{OneLine}
 use Rattle.run_defs.specs.Examples.{message_output}
-use Rattle.seen_laws.specs.Handed.{Handed, is_to, as_handed}
+use Rattle.client_laws.specs.Handed.{Handed, is_to, as_handed}
 use Rattle.promise_laws.specs.ReceivedLines.{received_in, accepted_of}
 use Rattle.promise_laws.specs.OneAction.{OfHost, OfChannel, OfCable, OfNone, actor_of}
 

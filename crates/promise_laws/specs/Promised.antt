@@ -2,7 +2,7 @@
 use Rattle.std.specs.Prelude.{List}
 use Rattle.net_defs.specs.Network.{Network, IsFabric}
 use Rattle.run_defs.specs.declared.command.Command.{Command}
-use Rattle.act_defs.specs.Acts.{AlwaysSound}
+use Rattle.world_defs.specs.Acts.{AlwaysSound}
 use Rattle.run_defs.specs.Headline.{IsHeadline}
 
 -- every moment of a fabric's world is sound, whatever happens before it

@@ -23,8 +23,8 @@ use Rattle.run_defs.specs.Output.{Piece, OneLine, MapLines}
 use Rattle.run_defs.specs.Session.{SessionState}
 use Rattle.run_defs.specs.Run.{IsRun}
 use Rattle.run_laws.specs.Acts.{IsActOf}
-use Rattle.seen_laws.specs.Handed.{Handed, in_answer, waiting_in, IsOfConnection, is_on, is_to, as_handed}
-use Rattle.seen_laws.specs.Handed.{in_send, is_sent_on}
+use Rattle.client_laws.specs.Handed.{Handed, in_answer, waiting_in, IsOfConnection, is_on, is_to, as_handed}
+use Rattle.client_laws.specs.Handed.{in_send, is_sent_on}
 
 -- the message that a line shows, where it is a line `received` of this port of a host
 abbrev pub received_in_line : ℕ → ℕ → Line → List Handed

@@ -7,7 +7,7 @@ use Rattle.map_defs.specs.NetMap.{NetMap}
 use Rattle.net_defs.specs.Dependencies.{IsBefore, HasNoCycle}
 use Rattle.world_defs.specs.World.{WorldState, fabric_of}
 use Rattle.world_defs.specs.Sound.{installed_channels}
-use Rattle.act_defs.specs.Acts.{IsReached}
+use Rattle.world_defs.specs.Acts.{IsReached}
 use Rattle.run_defs.specs.declared.command.Command.{Command}
 use Rattle.run_defs.specs.declared.line.MapWords.{MapWords}
 use Rattle.run_defs.specs.declared.line.MapWords.TheVariants.{Complete}

@@ -5,17 +5,17 @@ use Rattle.journal_defs.specs.declared.entry.Entry.{Entry}
 use Rattle.journal_defs.specs.Tree.{is_found, nodes}
 use Rattle.journal_defs.specs.Walks.{onward_turns}
 use Rattle.probe.specs.Keeping.{has_walk}
-use Rattle.class_joins.specs.declared.settling.Joined.{Joined}
-use Rattle.class_joins.specs.declared.way.Way.{Way}
+use Rattle.replicate_merge.specs.declared.settling.Joined.{Joined}
+use Rattle.replicate_merge.specs.declared.way.Way.{Way}
 use Rattle.replicate_merge.specs.Between.{AddsEntry}
-use Rattle.class_joins.specs.Growing.{Grows, MayGrow}
-use Rattle.class_joins.specs.Kept.{IsShaped}
+use Rattle.replicate_merge.specs.Growing.{Grows, MayGrow}
+use Rattle.replicate_merge.specs.Kept.{IsShaped}
 use Rattle.replicate_merge.specs.Next.{HasNext}
 use Rattle.replicate_merge.specs.Seen.{class_table, kept_of}
-use Rattle.class_joins.specs.Nodes.{nodes_of}
+use Rattle.replicate_merge.specs.Nodes.{nodes_of}
 use Rattle.replicate_merge.specs.Onward.{AreNewWays, AreOnce, known_among}
-use Rattle.class_joins.specs.Steps.{SameItems}
-use Rattle.class_joins.specs.Table.{ClassTable, IsTable, StandsFor}
+use Rattle.replicate_merge.specs.Steps.{SameItems}
+use Rattle.replicate_merge.specs.Table.{ClassTable, IsTable, StandsFor}
 use Rattle.replicate_merge.proofs.Nexts.{between-grown, growing, nodes-pushed, not-node, once-of, shape-grown, table-grown}
 use Rattle.replicate_merge.proofs.Orphans.{not-orphan, walk-known}
 use Rattle.replicate_merge.proofs.Reading.{same-table}

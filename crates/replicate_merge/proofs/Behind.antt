@@ -14,23 +14,23 @@ use Rattle.journal_defs.specs.Walks.{onward_turns}
 use Rattle.journal_defs.specs.declared.entry.Entry.{Entry}
 use Rattle.journal_defs.proofs.Members.{member-passes, number-member}
 use Rattle.probe.specs.Keeping.{has_walk}
-use Rattle.class_joins.specs.declared.way.Way.{Way}
-use Rattle.class_joins.specs.declared.way.Way.TheVariants.{Host, Cable}
+use Rattle.replicate_merge.specs.declared.way.Way.{Way}
+use Rattle.replicate_merge.specs.declared.way.Way.TheVariants.{Host, Cable}
 use Rattle.replicate_merge.specs.Behind.{AddsBehind}
 use Rattle.replicate_merge.specs.Behind.AddsBehind.{is_there, is_none}
-use Rattle.class_joins.specs.Longer.{IsInFront, IsNewWay}
-use Rattle.class_joins.specs.Longer.IsInFront.{of_mapper, of_node}
-use Rattle.class_joins.specs.Longer.IsNewWay.{of_host, from_front, to_front, to_behind, from_behind}
+use Rattle.replicate_merge.specs.Longer.{IsInFront, IsNewWay}
+use Rattle.replicate_merge.specs.Longer.IsInFront.{of_mapper, of_node}
+use Rattle.replicate_merge.specs.Longer.IsNewWay.{of_host, from_front, to_front, to_behind, from_behind}
 use Rattle.replicate_merge.specs.Cables.{AddsCables, both_ways, host_ways}
-use Rattle.class_joins.specs.Nodes.{nodes_of}
+use Rattle.replicate_merge.specs.Nodes.{nodes_of}
 use Rattle.replicate_merge.specs.Own.{AreOwnWays, IsOwnWay}
 use Rattle.replicate_merge.specs.Own.IsOwnWay.{of_host as own_host, from_front as own_from, to_front as own_to}
 use Rattle.replicate_merge.specs.Cables.AddsCables.{from_mapper, from_node, from_none}
 use Rattle.replicate_merge.specs.Onward.{AddsBelow, AreNewWays, AreOnce, IsBehind, is_known, known_among}
 use Rattle.replicate_merge.specs.Onward.IsBehind.{down, up}
-use Rattle.class_joins.specs.Ways.{Has, node_at}
-use Rattle.class_joins.proofs.Moving.{shift}
-use Rattle.class_joins.proofs.Telling.{adds, either, first-of, keeps, last-turn, no-walk, no-way, node-walk, not-empty, one-of, second-of, two-of, walk-node}
+use Rattle.replicate_merge.specs.Ways.{Has, node_at}
+use Rattle.replicate_merge.proofs.Moving.{shift}
+use Rattle.replicate_merge.proofs.Telling.{adds, either, first-of, keeps, last-turn, no-walk, no-way, node-walk, not-empty, one-of, second-of, two-of, walk-node}
 
 abbrev is_turn_there : Option ℤ → ℤ → Bool
 is_turn_there None t = false

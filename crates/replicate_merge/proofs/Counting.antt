@@ -13,9 +13,9 @@ use Rattle.journal_defs.specs.Walks.{IsOnward, onward_turns}
 use Rattle.journal_defs.proofs.Counted.{all-onward, onward-member}
 use Rattle.journal_defs.proofs.Growing.{expanded-by}
 use Rattle.journal_defs.proofs.Members.{IsMember}
-use Rattle.growth_laws.proofs.Keeping.{asked-kept, asked-last, asked-push, keeps-append}
-use Rattle.class_joins.specs.Asked.{asked_among, asked_turns}
-use Rattle.class_joins.proofs.Telling.{last-turn}
+use Rattle.map_laws.proofs.Keeping.{asked-kept, asked-last, asked-push, keeps-append}
+use Rattle.replicate_merge.specs.Asked.{asked_among, asked_turns}
+use Rattle.replicate_merge.proofs.Telling.{last-turn}
 
 abbrev one_if : Bool → ℕ
 one_if b = if b then 1 else 0

@@ -8,9 +8,9 @@ use Rattle.net_defs.proofs.Turns.{same_turns-false, same_turns-refl, same_turns-
 use Rattle.journal_defs.specs.declared.entry.Entry.{Entry}
 use Rattle.journal_defs.specs.Tree.{IsJournal, answered, has_found, is_found, nodes, reached}
 use Rattle.journal_defs.specs.Tree.Node.{Reached}
-use Rattle.class_joins.proofs.Longer.{nodes-more, nodes-same}
-use Rattle.class_joins.proofs.Numbers.{count-take}
-use Rattle.class_joins.proofs.Waying.{take-more}
+use Rattle.replicate_merge.proofs.Longer.{nodes-more, nodes-same}
+use Rattle.replicate_merge.proofs.Numbers.{count-take}
+use Rattle.replicate_merge.proofs.Waying.{take-more}
 use Rattle.replicate_merge.proofs.Finding.{reached-few}
 use Rattle.replicate_merge.proofs.Prefixes.{walk-at}
 

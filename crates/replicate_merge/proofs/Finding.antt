@@ -4,8 +4,8 @@ use Rattle.std.specs.Prelude.{ℤ}
 use Rattle.journal_defs.specs.declared.entry.Entry.{Entry}
 use Rattle.journal_defs.specs.Tree.{is_found, reached, nodes}
 use Rattle.journal_defs.specs.Tree.Node.{Reached}
-use Rattle.class_joins.specs.Nodes.{nodes_of}
-use Rattle.class_joins.proofs.Telling.{count-nodes}
+use Rattle.replicate_merge.specs.Nodes.{nodes_of}
+use Rattle.replicate_merge.proofs.Telling.{count-nodes}
 
 -- no more walks than entries
 pub reached-few : (es : List Entry) → length (reached es) ≤ length es

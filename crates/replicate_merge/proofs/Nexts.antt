@@ -14,33 +14,33 @@ use Rattle.journal_defs.specs.Tree.{Node, IsJournal, IsNode, Leads, answered, ha
 use Rattle.journal_defs.specs.Tree.Node.{Mapper, Reached}
 use Rattle.journal_defs.specs.Tree.Leads.{onward}
 use Rattle.journal_defs.specs.Walks.{onward_turns}
-use Rattle.growth_laws.proofs.Keeping.{answered-last, keeps-append, node-kept}
+use Rattle.map_laws.proofs.Keeping.{answered-last, keeps-append, node-kept}
 use Rattle.probe.specs.Keeping.{has_walk}
-use Rattle.class_joins.specs.declared.settling.Joined.{Joined}
-use Rattle.class_joins.specs.declared.way.Way.{Way}
-use Rattle.class_joins.specs.Adding.{known_at}
-use Rattle.class_joins.specs.Asked.{CountsAsked, HasOrphans, asked_among, asked_turns}
+use Rattle.replicate_merge.specs.declared.settling.Joined.{Joined}
+use Rattle.replicate_merge.specs.declared.way.Way.{Way}
+use Rattle.replicate_merge.specs.Adding.{known_at}
+use Rattle.replicate_merge.specs.Asked.{CountsAsked, HasOrphans, asked_among, asked_turns}
 use Rattle.replicate_merge.specs.Between.{IsBetween}
-use Rattle.class_joins.specs.Growing.{IsGrowing}
-use Rattle.class_joins.specs.Heads.{seen_frame}
-use Rattle.class_joins.specs.Kept.{Kept, IsShaped}
-use Rattle.class_joins.specs.Longer.{IsNewWay}
+use Rattle.replicate_merge.specs.Growing.{IsGrowing}
+use Rattle.replicate_merge.specs.Heads.{seen_frame}
+use Rattle.replicate_merge.specs.Kept.{Kept, IsShaped}
+use Rattle.replicate_merge.specs.Longer.{IsNewWay}
 use Rattle.replicate_merge.specs.Next.{IsNext}
 use Rattle.replicate_merge.specs.Seen.{class_table, kept_of}
-use Rattle.class_joins.specs.Nodes.{nodes_of}
+use Rattle.replicate_merge.specs.Nodes.{nodes_of}
 use Rattle.replicate_merge.specs.Onward.{AreNewWays, AreOnce, IsBehind, is_known, known_among}
 use Rattle.replicate_merge.specs.Onward.IsBehind.{down, up}
-use Rattle.class_joins.specs.Rounds.{IsSettlingIn}
-use Rattle.class_joins.specs.Table.{ClassTable, IsTable, StandsFor}
-use Rattle.class_joins.specs.Ways.{AreWays, Has, IsWay, node_at}
+use Rattle.replicate_merge.specs.Rounds.{IsSettlingIn}
+use Rattle.replicate_merge.specs.Table.{ClassTable, IsTable, StandsFor}
+use Rattle.replicate_merge.specs.Ways.{AreWays, Has, IsWay, node_at}
 use Rattle.replicate_merge.proofs.Counting.{expanded-thirty, thirty-expanded}
 use Rattle.replicate_merge.proofs.Finding.{few-walks}
-use Rattle.class_joins.proofs.Longer.{know-same, longer-ways, new-way, nodes-more, nodes-same, ways-same}
-use Rattle.class_joins.proofs.Nodes.{at-node, nodes-once}
+use Rattle.replicate_merge.proofs.Longer.{know-same, longer-ways, new-way, nodes-more, nodes-same, ways-same}
+use Rattle.replicate_merge.proofs.Nodes.{at-node, nodes-once}
 use Rattle.replicate_merge.proofs.Orphans.{node-known, orphans-next, walk-known}
-use Rattle.class_joins.proofs.Ranges.{port-turn}
-use Rattle.class_joins.proofs.Shapes.{shape-kept, table-kept}
-use Rattle.class_joins.proofs.Telling.{adds, count-nodes, keeps}
+use Rattle.replicate_merge.proofs.Ranges.{port-turn}
+use Rattle.replicate_merge.proofs.Shapes.{shape-kept, table-kept}
+use Rattle.replicate_merge.proofs.Telling.{adds, count-nodes, keeps}
 use Rattle.replicate_merge.proofs.Turns.{counts-added}
 
 nodes-push : (walks : List (List ℤ)) (w : List ℤ) → nodes_of (walks ++ w ∷ []) ≡ nodes_of walks ++ Reached w ∷ []

@@ -7,18 +7,18 @@ use Rattle.journal_defs.specs.declared.entry.Entry.{Entry}
 use Rattle.journal_defs.specs.Growth.{IsExpanded}
 use Rattle.journal_defs.specs.Tree.{Node, IsJournal, IsNode, has_found, is_found, nodes}
 use Rattle.journal_defs.specs.Tree.Node.{Reached}
-use Rattle.class_joins.specs.declared.meeting.Meeting.{Meeting}
-use Rattle.class_joins.specs.declared.settling.Joined.{Joined}
-use Rattle.class_joins.specs.declared.way.Way.{Way}
-use Rattle.class_joins.specs.declared.way.Way.TheVariants.{Host}
-use Rattle.class_joins.specs.Asked.{CountsAsked, asked_turns}
-use Rattle.class_joins.specs.Heads.{own_head}
-use Rattle.class_joins.specs.Rounds.{IsSettling, IsSettlingIn}
-use Rattle.class_joins.specs.Steps.{AddsNode, SameItems}
-use Rattle.class_joins.specs.Table.{IsTrueOfOne}
-use Rattle.class_joins.specs.Ways.{own_frame}
-use Rattle.class_joins.proofs.Added.{settling-added}
-use Rattle.class_joins.proofs.Shapes.{names-few}
+use Rattle.replicate_merge.specs.declared.meeting.Meeting.{Meeting}
+use Rattle.replicate_merge.specs.declared.settling.Joined.{Joined}
+use Rattle.replicate_merge.specs.declared.way.Way.{Way}
+use Rattle.replicate_merge.specs.declared.way.Way.TheVariants.{Host}
+use Rattle.replicate_merge.specs.Asked.{CountsAsked, asked_turns}
+use Rattle.replicate_merge.specs.Heads.{own_head}
+use Rattle.replicate_merge.specs.Rounds.{IsSettling, IsSettlingIn}
+use Rattle.replicate_merge.specs.Steps.{AddsNode, SameItems}
+use Rattle.replicate_merge.specs.Table.{IsTrueOfOne}
+use Rattle.replicate_merge.specs.Ways.{own_frame}
+use Rattle.replicate_merge.proofs.Added.{settling-added}
+use Rattle.replicate_merge.proofs.Shapes.{names-few}
 use Rattle.replicate_merge.specs.AtOnce.{HasOwnNodes, IsHostAlone}
 use Rattle.replicate_merge.proofs.Counting.{expanded-thirty, thirty-expanded}
 use Rattle.replicate_merge.proofs.Entries.{answered-at, few-before, node-place, nodes-found, nodes-lost}

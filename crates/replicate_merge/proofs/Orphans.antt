@@ -8,13 +8,13 @@ use Rattle.net_defs.proofs.Turns.{same_turns-refl, same_turns-true}
 use Rattle.journal_defs.specs.declared.entry.Entry.{Entry}
 use Rattle.journal_defs.specs.Tree.{Node, IsJournal, IsNode, answered, is_asked, nodes}
 use Rattle.journal_defs.specs.Tree.Node.{Reached}
-use Rattle.growth_laws.proofs.Keeping.{answered-last, answered-push, asked-push, keeps-append, node-kept}
+use Rattle.map_laws.proofs.Keeping.{answered-last, answered-push, asked-push, keeps-append, node-kept}
 use Rattle.probe.specs.Keeping.{has_walk}
-use Rattle.class_joins.specs.Asked.{HasOrphans}
-use Rattle.class_joins.specs.Nodes.{nodes_of}
-use Rattle.class_joins.specs.Ways.{node_at}
-use Rattle.class_joins.proofs.Nodes.{at-node, node-at}
-use Rattle.class_joins.proofs.Telling.{no-walk, node-walk, walk-node}
+use Rattle.replicate_merge.specs.Asked.{HasOrphans}
+use Rattle.replicate_merge.specs.Nodes.{nodes_of}
+use Rattle.replicate_merge.specs.Ways.{node_at}
+use Rattle.replicate_merge.proofs.Nodes.{at-node, node-at}
+use Rattle.replicate_merge.proofs.Telling.{no-walk, node-walk, walk-node}
 
 -- one walk more
 pub has-more : (ws : List (List ℤ)) (w v : List ℤ) → has_walk (ws ++ w ∷ []) v ≡ true → (has_walk ws v ≡ true) ⊎ (w ≡ v)

@@ -6,11 +6,11 @@ use Rattle.net_defs.specs.declared.place.Answer.TheVariants.{Nothing}
 use Rattle.journal_defs.specs.declared.entry.Entry.{Entry}
 use Rattle.journal_defs.specs.Tree.{IsJournal, IsNode, answered, is_asked, is_found, nodes}
 use Rattle.journal_defs.specs.Tree.Node.{Reached}
-use Rattle.growth_laws.proofs.Keeping.{answered-last, answered-push, keeps-append}
+use Rattle.map_laws.proofs.Keeping.{answered-last, answered-push, keeps-append}
 use Rattle.probe.specs.Keeping.{has_walk}
-use Rattle.class_joins.specs.Asked.{HasOrphans}
-use Rattle.class_joins.specs.Nodes.{nodes_of}
-use Rattle.class_joins.proofs.Telling.{last-turn, not-empty}
+use Rattle.replicate_merge.specs.Asked.{HasOrphans}
+use Rattle.replicate_merge.specs.Nodes.{nodes_of}
+use Rattle.replicate_merge.proofs.Telling.{last-turn, not-empty}
 use Rattle.replicate_merge.specs.AtOnce.{AreOrphans}
 use Rattle.replicate_merge.proofs.Orphans.{has-last, has-left, has-more, walk-known}
 use Rattle.replicate_merge.proofs.Reading.{node-missing}

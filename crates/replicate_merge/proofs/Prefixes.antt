@@ -9,9 +9,9 @@ use Rattle.net_defs.proofs.Turns.{same_turns-false}
 use Rattle.journal_defs.specs.declared.entry.Entry.{Entry}
 use Rattle.journal_defs.specs.Tree.{IsJournal, answered, is_asked}
 use Rattle.replicate_merge.specs.Next.{HasNext, IsNext}
-use Rattle.class_joins.specs.Table.{ClassTable, IsTrueOfOne, StandsFor}
-use Rattle.class_joins.proofs.Numbers.{count-take}
-use Rattle.class_joins.proofs.Waying.{take-more}
+use Rattle.replicate_merge.specs.Table.{ClassTable, IsTrueOfOne, StandsFor}
+use Rattle.replicate_merge.proofs.Numbers.{count-take}
+use Rattle.replicate_merge.proofs.Waying.{take-more}
 
 all-take : (P : Entry → Type 0) (es : List Entry) (i : ℕ) → AllByRecursion P es → AllByRecursion P (take i es)
 all-take P es zero all = tt

@@ -12,11 +12,11 @@ use Rattle.journal_defs.specs.Tree.Node.{Mapper, Reached}
 use Rattle.probe.specs.Keeping.{has_walk}
 use Rattle.replicate_merge.specs.Between.{AddsEntry, CountsTurn, HasSeenFrames, IsBetween, looking_ahead, turns_of, with_orphan}
 use Rattle.replicate_merge.specs.Next.{HasNext, IsNext, StandsForNext}
-use Rattle.class_joins.specs.Table.{ClassTable, StandsFor}
+use Rattle.replicate_merge.specs.Table.{ClassTable, StandsFor}
 use Rattle.replicate_merge.proofs.Nexts.{between-same}
-use Rattle.class_joins.proofs.Nodes.{at-node}
+use Rattle.replicate_merge.proofs.Nodes.{at-node}
 use Rattle.replicate_merge.proofs.Orphans.{has-last, has-left, has-more, orphans-next}
-use Rattle.class_joins.proofs.Telling.{last-turn, not-empty}
+use Rattle.replicate_merge.proofs.Telling.{last-turn, not-empty}
 use Rattle.replicate_merge.proofs.Stands.{number-kept, stands-ahead, stands-first, stands-turned, turns-few}
 
 module _ (old mid : ClassTable) (e : Entry) (adds : AddsEntry old e mid) where

@@ -9,16 +9,16 @@ use Rattle.journal_defs.specs.Tree.Node.{Reached}
 use Rattle.probe.specs.Keeping.{has_walk}
 use Rattle.port_align.specs.declared.frame.ClassFrame.{ClassFrame}
 use Rattle.replicate_merge.specs.Between.{number_of}
-use Rattle.class_joins.specs.Heads.{head_at, seen_frame}
-use Rattle.class_joins.specs.Kept.{IsShaped, Kept}
-use Rattle.class_joins.specs.Steps.{MarksNode, SameItems}
-use Rattle.class_joins.specs.Table.{ClassTable, IsTable}
-use Rattle.class_joins.specs.declared.settling.Joined.{Joined}
-use Rattle.class_joins.specs.Ways.{frame_at, own_frame}
+use Rattle.replicate_merge.specs.Heads.{head_at, seen_frame}
+use Rattle.replicate_merge.specs.Kept.{IsShaped, Kept}
+use Rattle.replicate_merge.specs.Steps.{MarksNode, SameItems}
+use Rattle.replicate_merge.specs.Table.{ClassTable, IsTable}
+use Rattle.replicate_merge.specs.declared.settling.Joined.{Joined}
+use Rattle.replicate_merge.specs.Ways.{frame_at, own_frame}
 use Rattle.replicate_merge.specs.Seen.{class_table, kept_of}
-use Rattle.class_joins.specs.Nodes.{nodes_of}
-use Rattle.class_joins.proofs.Naming.{map-count, map-get}
-use Rattle.class_joins.proofs.Telling.{no-walk}
+use Rattle.replicate_merge.specs.Nodes.{nodes_of}
+use Rattle.replicate_merge.proofs.Naming.{map-count, map-get}
+use Rattle.replicate_merge.proofs.Telling.{no-walk}
 
 -- the node of a walk at a place
 pub node-there : (walks : List (List ℤ)) (at : ℕ) (w : List ℤ) → slice_get walks at ≡ Some w → slice_get (nodes_of walks) (at + 1) ≡ Some (Reached w)

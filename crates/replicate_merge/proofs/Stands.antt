@@ -14,24 +14,24 @@ use Rattle.journal_defs.specs.Growth.{IsExpanded}
 use Rattle.journal_defs.specs.Tree.{Node, IsJournal, IsNode, answered, is_asked, is_found, nodes}
 use Rattle.journal_defs.specs.Tree.Node.{Mapper, Reached}
 use Rattle.journal_defs.specs.Walks.{IsOnward}
-use Rattle.growth_laws.proofs.Keeping.{asked-kept, keeps-append}
+use Rattle.map_laws.proofs.Keeping.{asked-kept, keeps-append}
 use Rattle.port_align.specs.declared.frame.ClassFrame.{ClassFrame}
-use Rattle.class_joins.specs.Asked.{CountsAsked, HasOrphans, asked_turns}
+use Rattle.replicate_merge.specs.Asked.{CountsAsked, HasOrphans, asked_turns}
 use Rattle.replicate_merge.specs.Between.{CountsTurn, IsBetween, number_of, turned, turns_of}
 use Rattle.replicate_merge.specs.Between.CountsTurn.{is_back, is_last, is_more}
-use Rattle.class_joins.specs.Heads.{MarksNames}
-use Rattle.class_joins.specs.Kept.{Kept, IsKept}
+use Rattle.replicate_merge.specs.Heads.{MarksNames}
+use Rattle.replicate_merge.specs.Kept.{Kept, IsKept}
 use Rattle.replicate_merge.specs.Next.{IsNext}
-use Rattle.class_joins.specs.Table.{ClassTable, StandsFor}
-use Rattle.class_joins.specs.Ways.{node_at}
-use Rattle.class_joins.proofs.Added.{item-place}
+use Rattle.replicate_merge.specs.Table.{ClassTable, StandsFor}
+use Rattle.replicate_merge.specs.Ways.{node_at}
+use Rattle.replicate_merge.proofs.Added.{item-place}
 use Rattle.replicate_merge.proofs.Counting.{at-most-thirty, count-next, count-zero, expanded-thirty, thirty-expanded}
-use Rattle.class_joins.proofs.Lists.{item-left}
-use Rattle.class_joins.proofs.Longer.{nodes-more, nodes-same}
-use Rattle.class_joins.proofs.Nodes.{at-node, nodes-once}
+use Rattle.replicate_merge.proofs.Lists.{item-left}
+use Rattle.replicate_merge.proofs.Longer.{nodes-more, nodes-same}
+use Rattle.replicate_merge.proofs.Nodes.{at-node, nodes-once}
 use Rattle.replicate_merge.proofs.Orphans.{orphans-done}
-use Rattle.class_joins.proofs.Rounds.{kept-stands}
-use Rattle.class_joins.proofs.Telling.{last-turn, not-empty}
+use Rattle.replicate_merge.proofs.Rounds.{kept-stands}
+use Rattle.replicate_merge.proofs.Telling.{last-turn, not-empty}
 use Rattle.replicate_merge.proofs.Turned.{marks-same, marks-set, walk-cases}
 use Rattle.replicate_merge.proofs.Turns.{counts-kept, counts-turned, empty-turn, expanded-down, expanded-up, other-turn}
 

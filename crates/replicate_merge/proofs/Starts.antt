@@ -12,34 +12,34 @@ use Rattle.journal_defs.specs.Tree.{Node, Leads, host_of, node_below}
 use Rattle.journal_defs.specs.Tree.Node.{Mapper, Reached}
 use Rattle.journal_defs.specs.Tree.Leads.{onward, back, out, home}
 use Rattle.port_align.specs.declared.frame.ClassFrame.{ClassFrame}
-use Rattle.class_joins.specs.declared.heads.Head.{Head}
-use Rattle.class_joins.specs.declared.meeting.HostNode.{HostNode}
-use Rattle.class_joins.specs.declared.meeting.Meeting.{Meeting}
-use Rattle.port_table.specs.declared.end.NodePort.{NodePort}
-use Rattle.class_joins.specs.declared.settling.Joined.{Joined}
-use Rattle.class_joins.specs.declared.way.Spot.{Spot}
-use Rattle.class_joins.specs.declared.way.Spot.TheVariants.{Address, Port}
-use Rattle.class_joins.specs.declared.way.Way.TheVariants.{Host}
-use Rattle.class_joins.specs.Adding.{AddsEnd, known_at}
-use Rattle.class_joins.specs.Adding.AddsEnd.{is_learnt, is_met}
-use Rattle.class_joins.specs.Asked.{CountsAsked, asked_turns}
-use Rattle.class_joins.specs.Heads.{MarksNames, head_at, own_head}
-use Rattle.class_joins.specs.Kept.{IsKept, IsShaped}
+use Rattle.replicate_merge.specs.declared.heads.Head.{Head}
+use Rattle.replicate_merge.specs.declared.meeting.HostNode.{HostNode}
+use Rattle.replicate_merge.specs.declared.meeting.Meeting.{Meeting}
+use Rattle.port_align.specs.declared.end.NodePort.{NodePort}
+use Rattle.replicate_merge.specs.declared.settling.Joined.{Joined}
+use Rattle.replicate_merge.specs.declared.way.Spot.{Spot}
+use Rattle.replicate_merge.specs.declared.way.Spot.TheVariants.{Address, Port}
+use Rattle.replicate_merge.specs.declared.way.Way.TheVariants.{Host}
+use Rattle.replicate_merge.specs.Adding.{AddsEnd, known_at}
+use Rattle.replicate_merge.specs.Adding.AddsEnd.{is_learnt, is_met}
+use Rattle.replicate_merge.specs.Asked.{CountsAsked, asked_turns}
+use Rattle.replicate_merge.specs.Heads.{MarksNames, head_at, own_head}
+use Rattle.replicate_merge.specs.Kept.{IsKept, IsShaped}
 use Rattle.replicate_merge.specs.AtOnce.{IsHostAlone}
 use Rattle.replicate_merge.specs.Seen.{class_table, kept_of}
-use Rattle.port_table.specs.Ends.{AddsPlaces}
-use Rattle.class_joins.specs.Rounds.{IsSettling, IsSettlingIn}
-use Rattle.class_joins.specs.Steps.{AddsNode, HasNoNodes, SameItems}
-use Rattle.class_joins.specs.Table.{IsTable, StandsFor}
-use Rattle.class_joins.specs.Truth.{IsTrueOfOne}
-use Rattle.class_joins.specs.Ways.{AreWays, Has, IsWay, frame_at, node_at, own_frame}
-use Rattle.class_joins.specs.Work.{far_end}
-use Rattle.class_joins.proofs.Added.{known-placed}
-use Rattle.class_joins.proofs.Lists.{nothing-among}
-use Rattle.class_joins.proofs.Shapes.{shape-kept, table-kept}
-use Rattle.class_joins.proofs.Rounds.{kept-stands}
-use Rattle.class_joins.proofs.Telling.{no-way, one-of}
-use Rattle.class_joins.proofs.Waying.{way-added}
+use Rattle.port_align.specs.Ends.{AddsPlaces}
+use Rattle.replicate_merge.specs.Rounds.{IsSettling, IsSettlingIn}
+use Rattle.replicate_merge.specs.Steps.{AddsNode, HasNoNodes, SameItems}
+use Rattle.replicate_merge.specs.Table.{IsTable, StandsFor}
+use Rattle.replicate_merge.specs.Truth.{IsTrueOfOne}
+use Rattle.replicate_merge.specs.Ways.{AreWays, Has, IsWay, frame_at, node_at, own_frame}
+use Rattle.replicate_merge.specs.Work.{far_end}
+use Rattle.replicate_merge.proofs.Added.{known-placed}
+use Rattle.replicate_merge.proofs.Lists.{nothing-among}
+use Rattle.replicate_merge.proofs.Shapes.{shape-kept, table-kept}
+use Rattle.replicate_merge.proofs.Rounds.{kept-stands}
+use Rattle.replicate_merge.proofs.Telling.{no-way, one-of}
+use Rattle.replicate_merge.proofs.Waying.{way-added}
 
 -- without entries any fabric will do
 pub true_of_none : (host : ℕ) → IsTrueOfOne host []

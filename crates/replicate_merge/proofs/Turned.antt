@@ -10,10 +10,10 @@ use Rattle.journal_defs.specs.Tree.{Node}
 use Rattle.journal_defs.specs.Tree.Node.{Reached}
 use Rattle.journal_defs.specs.Growth.{IsExpanded}
 use Rattle.port_align.specs.declared.frame.ClassFrame.{ClassFrame}
-use Rattle.class_joins.specs.declared.heads.Head.{Head}
-use Rattle.class_joins.specs.Ways.{frame_at, node_at}
-use Rattle.class_joins.specs.Heads.{HasExpandedNode, HasHeads, MarksNames, head_at}
-use Rattle.class_joins.proofs.Numbers.{get-other, get-set}
+use Rattle.replicate_merge.specs.declared.heads.Head.{Head}
+use Rattle.replicate_merge.specs.Ways.{frame_at, node_at}
+use Rattle.replicate_merge.specs.Heads.{HasExpandedNode, HasHeads, MarksNames, head_at}
+use Rattle.replicate_merge.proofs.Numbers.{get-other, get-set}
 
 -- the marks stay where the same nodes are expanded
 pub marks-same : (asks later : List Entry) (ns : List Node) (fs : List ClassFrame) (hs : List Head) (marks : List Bool) → ((n : ℕ) (w : List ℤ) → n < length ns → node_at ns n ≡ Reached w → IsExpanded asks w → IsExpanded later w) → ((n : ℕ) (w : List ℤ) → n < length ns → node_at ns n ≡ Reached w → IsExpanded later w → IsExpanded asks w) → MarksNames asks ns fs hs marks → MarksNames later ns fs hs marks

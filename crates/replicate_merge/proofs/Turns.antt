@@ -9,13 +9,13 @@ use Rattle.journal_defs.specs.Tree.{Node, is_asked}
 use Rattle.journal_defs.specs.Tree.Node.{Reached}
 use Rattle.journal_defs.specs.Growth.{IsExpanded}
 use Rattle.journal_defs.specs.Walks.{IsOnward}
-use Rattle.growth_laws.proofs.Keeping.{asked-kept, asked-push, keeps-append}
-use Rattle.class_joins.specs.Asked.{CountsAsked, asked_turns}
-use Rattle.class_joins.proofs.Added.{item-place}
+use Rattle.map_laws.proofs.Keeping.{asked-kept, asked-push, keeps-append}
+use Rattle.replicate_merge.specs.Asked.{CountsAsked, asked_turns}
+use Rattle.replicate_merge.proofs.Added.{item-place}
 use Rattle.replicate_merge.proofs.Counting.{count-next, count-other}
-use Rattle.class_joins.proofs.Lists.{item-last, item-left}
-use Rattle.class_joins.proofs.Numbers.{get-other, get-set}
-use Rattle.class_joins.proofs.Telling.{last-turn, not-empty}
+use Rattle.replicate_merge.proofs.Lists.{item-last, item-left}
+use Rattle.replicate_merge.proofs.Numbers.{get-other, get-set}
+use Rattle.replicate_merge.proofs.Telling.{last-turn, not-empty}
 
 -- a node more, with the count of its turns
 pub counts-added : (j : List Entry) (ns : List Node) (asked : List ℕ) (w : List ℤ) (c : ℕ) → c ≡ asked_turns j w → CountsAsked j ns asked → CountsAsked j (ns ++ Reached w ∷ []) (asked ++ c ∷ [])

@@ -7,7 +7,7 @@ use Rattle.journal_defs.specs.declared.entry.Entry.{Entry}
 use Rattle.journal_defs.specs.Tree.{Node, is_asked}
 use Rattle.journal_defs.specs.Tree.Node.{Mapper, Reached}
 use Rattle.journal_defs.specs.Walks.{IsOnward}
-use Rattle.class_joins.specs.Asked.{CountsAsked, asked_turns}
+use Rattle.replicate_merge.specs.Asked.{CountsAsked, asked_turns}
 use Rattle.replicate_merge.specs.Onward.{AreOnce}
 use Rattle.replicate_merge.proofs.Counting.{at-most-thirty, count-zero}
 use Rattle.replicate_merge.proofs.Turns.{counts-kept, counts-turned, empty-turn, other-turn}

@@ -10,21 +10,21 @@ use Rattle.journal_defs.specs.Tree.{Node, IsJournal, IsNode, Leads, answered, ho
 use Rattle.journal_defs.specs.Tree.Node.{Mapper, Reached}
 use Rattle.journal_defs.specs.Tree.Leads.{onward, back, out, home}
 use Rattle.probe.specs.Keeping.{has_walk}
-use Rattle.class_joins.specs.declared.meeting.Meeting.{Meeting}
-use Rattle.class_joins.specs.declared.settling.Joined.{Joined}
-use Rattle.class_joins.specs.declared.heads.Heads.{Heads}
-use Rattle.class_joins.specs.declared.way.Way.{Way}
-use Rattle.class_joins.specs.declared.way.Way.TheVariants.{Host, Cable}
-use Rattle.class_joins.specs.Longer.{IsInFront}
-use Rattle.class_joins.specs.Longer.IsInFront.{of_mapper, of_node}
-use Rattle.class_joins.specs.Nodes.{nodes_of}
-use Rattle.class_joins.specs.Rounds.{IsSettlingIn, IsSettlingSome, KeepsSettling}
-use Rattle.class_joins.specs.Steps.{AddsWays, MayAddWays, SameItems}
-use Rattle.class_joins.specs.Ways.{AreWays, Has, IsWay, node_at}
-use Rattle.class_joins.proofs.Nodes.{at-node}
-use Rattle.class_joins.proofs.Shapes.{names-few}
-use Rattle.class_joins.proofs.Telling.{adds, keeps, no-walk, node-walk}
-use Rattle.class_joins.proofs.Waying.{take-all}
+use Rattle.replicate_merge.specs.declared.meeting.Meeting.{Meeting}
+use Rattle.replicate_merge.specs.declared.settling.Joined.{Joined}
+use Rattle.replicate_merge.specs.declared.heads.Heads.{Heads}
+use Rattle.replicate_merge.specs.declared.way.Way.{Way}
+use Rattle.replicate_merge.specs.declared.way.Way.TheVariants.{Host, Cable}
+use Rattle.replicate_merge.specs.Longer.{IsInFront}
+use Rattle.replicate_merge.specs.Longer.IsInFront.{of_mapper, of_node}
+use Rattle.replicate_merge.specs.Nodes.{nodes_of}
+use Rattle.replicate_merge.specs.Rounds.{IsSettlingIn, IsSettlingSome, KeepsSettling}
+use Rattle.replicate_merge.specs.Steps.{AddsWays, MayAddWays, SameItems}
+use Rattle.replicate_merge.specs.Ways.{AreWays, Has, IsWay, node_at}
+use Rattle.replicate_merge.proofs.Nodes.{at-node}
+use Rattle.replicate_merge.proofs.Shapes.{names-few}
+use Rattle.replicate_merge.proofs.Telling.{adds, keeps, no-walk, node-walk}
+use Rattle.replicate_merge.proofs.Waying.{take-all}
 use Rattle.replicate_merge.specs.AtOnce.{HasAllWays, HasOwnNodes, HasOwnWays}
 use Rattle.replicate_merge.specs.Own.{AreOwnWays, IsOwnWay}
 use Rattle.replicate_merge.specs.Own.IsOwnWay.{of_host, from_front, to_front}

@@ -3,14 +3,14 @@ use Rattle.std.proofs.Common.{◌≡◌, ◌<◌, ◌^◌, ℕ, true, List, leng
 use Rattle.std.specs.Prelude.{ℤ}
 use Rattle.journal_defs.specs.declared.entry.Entry.{Entry}
 use Rattle.journal_defs.specs.Tree.{nodes}
-use Rattle.class_joins.specs.declared.settling.Joined.{Joined}
-use Rattle.class_joins.specs.Asked.{CountsAsked, HasOrphans}
-use Rattle.class_joins.specs.Kept.{IsShaped}
-use Rattle.class_joins.specs.Nodes.{nodes_of}
-use Rattle.class_joins.specs.Table.{IsTable, StandsFor}
-use Rattle.class_joins.proofs.Rounds.{kept-stands}
-use Rattle.class_joins.proofs.Shapes.{shape-kept, table-kept}
-use Rattle.class_joins.proofs.Telling.{count-nodes}
+use Rattle.replicate_merge.specs.declared.settling.Joined.{Joined}
+use Rattle.replicate_merge.specs.Asked.{CountsAsked, HasOrphans}
+use Rattle.replicate_merge.specs.Kept.{IsShaped}
+use Rattle.replicate_merge.specs.Nodes.{nodes_of}
+use Rattle.replicate_merge.specs.Table.{IsTable, StandsFor}
+use Rattle.replicate_merge.proofs.Rounds.{kept-stands}
+use Rattle.replicate_merge.proofs.Shapes.{shape-kept, table-kept}
+use Rattle.replicate_merge.proofs.Telling.{count-nodes}
 use Rattle.replicate_merge.specs.AtOnce.{HasAllWays}
 use Rattle.replicate_merge.specs.Seen.{class_table, kept_of}
 use Rattle.replicate_merge.proofs.Finding.{few-walks}

@@ -5,12 +5,12 @@ use Rattle.journal_defs.specs.declared.entry.Entry.{Entry}
 use Rattle.journal_defs.specs.Tree.{Node, IsJournal, answered, nodes}
 use Rattle.journal_defs.specs.Tree.Node.{Mapper, Reached}
 use Rattle.probe.specs.Keeping.{has_walk}
-use Rattle.class_joins.specs.declared.settling.Joined.{Joined}
-use Rattle.class_joins.specs.declared.way.Way.{Way}
-use Rattle.class_joins.specs.declared.way.Way.TheVariants.{Host}
-use Rattle.class_joins.specs.Rounds.{IsSettlingIn}
-use Rattle.class_joins.specs.Truth.{IsTrueOfOne}
-use Rattle.class_joins.specs.Ways.{AreWays, Has, node_at}
+use Rattle.replicate_merge.specs.declared.settling.Joined.{Joined}
+use Rattle.replicate_merge.specs.declared.way.Way.{Way}
+use Rattle.replicate_merge.specs.declared.way.Way.TheVariants.{Host}
+use Rattle.replicate_merge.specs.Rounds.{IsSettlingIn}
+use Rattle.replicate_merge.specs.Truth.{IsTrueOfOne}
+use Rattle.replicate_merge.specs.Ways.{AreWays, Has, node_at}
 use Rattle.replicate_merge.specs.Own.{IsOwnWay}
 
 -- The tables are those of the mapper's host alone, in each journal that is true of one fabric.

@@ -1,7 +1,7 @@
 -- The ways between a node and one behind it.
 use Rattle.std.specs.Prelude.{◌≡◌, ℕ, ◌+◌, ℤ, false, List, [], ◌∷◌, ◌++◌, slice_get, Some}
 use Rattle.probe.specs.Keeping.{has_walk}
-use Rattle.class_joins.specs.declared.way.Way.{Way}
+use Rattle.replicate_merge.specs.declared.way.Way.{Way}
 use Rattle.replicate_merge.specs.Cables.{both_ways}
 
 -- The ways between a node and the one behind its turn were added, or that isn't there.

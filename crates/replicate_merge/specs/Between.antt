@@ -6,12 +6,12 @@ use Rattle.journal_defs.specs.Tree.{Node, IsNode, is_asked, nodes}
 use Rattle.journal_defs.specs.Tree.Node.{Reached}
 use Rattle.replicate_merge.specs.declared.fronts.Front.{Front}
 use Rattle.replicate_merge.specs.declared.fronts.Front.TheVariants.{Mapper, Node as AtNode, Missing}
-use Rattle.class_joins.specs.declared.way.Way.{Way}
-use Rattle.class_joins.specs.Ways.{AreWays, frame_at}
-use Rattle.class_joins.specs.Heads.{head_at, seen_frame}
-use Rattle.class_joins.specs.Rounds.{IsSettling}
-use Rattle.class_joins.specs.Asked.{CountsAsked, HasOrphans}
-use Rattle.class_joins.specs.Table.{ClassTable, StandsFor}
+use Rattle.replicate_merge.specs.declared.way.Way.{Way}
+use Rattle.replicate_merge.specs.Ways.{AreWays, frame_at}
+use Rattle.replicate_merge.specs.Heads.{head_at, seen_frame}
+use Rattle.replicate_merge.specs.Rounds.{IsSettling}
+use Rattle.replicate_merge.specs.Asked.{CountsAsked, HasOrphans}
+use Rattle.replicate_merge.specs.Table.{ClassTable, StandsFor}
 use Rattle.replicate_merge.specs.Next.{IsNext}
 
 -- the frames are those by the nodes that name classes, as callers see them

@@ -3,8 +3,8 @@ use Rattle.std.specs.Prelude.{◌≡◌, ℕ, ◌+◌, ℤ, pos, false, List, []
 use Rattle.net_defs.specs.declared.place.Answer.{Answer}
 use Rattle.net_defs.specs.declared.place.Answer.TheVariants.{Host as HostAnswer}
 use Rattle.probe.specs.Keeping.{has_walk}
-use Rattle.class_joins.specs.declared.way.Way.{Way}
-use Rattle.class_joins.specs.declared.way.Way.TheVariants.{Host, Cable}
+use Rattle.replicate_merge.specs.declared.way.Way.{Way}
+use Rattle.replicate_merge.specs.declared.way.Way.TheVariants.{Host, Cable}
 
 -- the way of a node that is a host
 abbrev pub host_ways : Option Answer → ℕ → List Way

@@ -2,10 +2,10 @@
 use Rattle.std.specs.Prelude.{ℕ, ℤ, false, Bool, List, []}
 use Rattle.journal_defs.specs.declared.entry.Entry.{Entry}
 use Rattle.port_align.specs.declared.frame.ClassFrame.{ClassFrame}
-use Rattle.class_joins.specs.Kept.{Kept}
-use Rattle.class_joins.specs.Nodes.{nodes_of}
-use Rattle.class_joins.specs.Table.{ClassTable, IsNumbered, HasReplicatesTogether, HasOnlyReplicatesTogether}
-use Rattle.class_joins.specs.Table.{HasLeastNodes}
+use Rattle.replicate_merge.specs.Kept.{Kept}
+use Rattle.replicate_merge.specs.Nodes.{nodes_of}
+use Rattle.replicate_merge.specs.Table.{ClassTable, IsNumbered, HasReplicatesTogether, HasOnlyReplicatesTogether}
+use Rattle.replicate_merge.specs.Table.{HasLeastNodes}
 
 -- no tables by which classes go on
 abbrev pub no_tables : Kept

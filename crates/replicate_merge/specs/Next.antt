@@ -2,7 +2,7 @@
 use Rattle.std.specs.Prelude.{◌≡◌, ℕ, ◌+◌, ◌<◌, false, List, [], ◌∷◌, ◌++◌, length}
 use Rattle.journal_defs.specs.declared.entry.Entry.{Entry}
 use Rattle.journal_defs.specs.Tree.{IsJournal, is_asked}
-use Rattle.class_joins.specs.Table.{ClassTable, IsTrueOfOne, StandsFor}
+use Rattle.replicate_merge.specs.Table.{ClassTable, IsTrueOfOne, StandsFor}
 
 -- An entry may be the next of a journal: its walk is new, and its answer with those before it is true of one fabric.
 pub record IsNext (host : ℕ) (j : List Entry) (e : Entry) : Type 0 where

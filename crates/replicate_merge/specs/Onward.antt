@@ -6,10 +6,10 @@ use Rattle.journal_defs.specs.Tree.{Node}
 use Rattle.journal_defs.specs.Tree.Node.{Reached}
 use Rattle.journal_defs.specs.declared.entry.Entry.{Entry}
 use Rattle.probe.specs.Keeping.{has_walk}
-use Rattle.class_joins.specs.declared.way.Way.{Way}
-use Rattle.class_joins.specs.declared.way.Way.TheVariants.{Cable}
-use Rattle.class_joins.specs.Ways.{Has, node_at}
-use Rattle.class_joins.specs.Longer.{IsNewWay}
+use Rattle.replicate_merge.specs.declared.way.Way.{Way}
+use Rattle.replicate_merge.specs.declared.way.Way.TheVariants.{Cable}
+use Rattle.replicate_merge.specs.Ways.{Has, node_at}
+use Rattle.replicate_merge.specs.Longer.{IsNewWay}
 
 -- a walk is one of either list
 abbrev pub is_known : List (List ℤ) → List (List ℤ) → List ℤ → Bool

@@ -3,10 +3,10 @@ use Rattle.std.specs.Prelude.{◌≡◌, ℕ, ◌<◌, ◌≤◌, ℤ, pos, List
 use Rattle.net_defs.specs.declared.place.Answer.TheVariants.{Host as HostAnswer}
 use Rattle.journal_defs.specs.declared.entry.Entry.{Entry}
 use Rattle.journal_defs.specs.Tree.{Node}
-use Rattle.class_joins.specs.declared.way.Way.{Way}
-use Rattle.class_joins.specs.declared.way.Way.TheVariants.{Host, Cable}
-use Rattle.class_joins.specs.Longer.{IsInFront}
-use Rattle.class_joins.specs.Ways.{Has, node_at}
+use Rattle.replicate_merge.specs.declared.way.Way.{Way}
+use Rattle.replicate_merge.specs.declared.way.Way.TheVariants.{Host, Cable}
+use Rattle.replicate_merge.specs.Longer.{IsInFront}
+use Rattle.replicate_merge.specs.Ways.{Has, node_at}
 
 -- An own way of an entry, whose node has number n: of its host, or between its node and the one in front.
 pub data IsOwnWay (ns : List Node) (e : Entry) (n : ℕ) (w : Way) : Type 0 where

@@ -1,10 +1,10 @@
 -- Classes in memory, as callers see them.
 use Rattle.std.specs.Prelude.{ℕ, ℤ, Bool, List, map}
-use Rattle.class_joins.specs.declared.settling.Joined.{Joined}
-use Rattle.class_joins.specs.Heads.{seen_frame}
-use Rattle.class_joins.specs.Kept.{Kept}
-use Rattle.class_joins.specs.Nodes.{nodes_of}
-use Rattle.class_joins.specs.Table.{ClassTable}
+use Rattle.replicate_merge.specs.declared.settling.Joined.{Joined}
+use Rattle.replicate_merge.specs.Heads.{seen_frame}
+use Rattle.replicate_merge.specs.Kept.{Kept}
+use Rattle.replicate_merge.specs.Nodes.{nodes_of}
+use Rattle.replicate_merge.specs.Table.{ClassTable}
 
 -- classes over the nodes of these walks, as callers see them
 abbrev pub class_table : List (List ℤ) → Kept → List Bool → ClassTable

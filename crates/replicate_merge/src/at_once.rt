@@ -3,14 +3,14 @@
 
 ghost use Rattle.std.specs.Prelude.{◌≡◌, ◌+◌, ◌<◌, length, IfOk, OnOk};
 ghost use Rattle.journal_defs.specs.Tree.{nodes};
-ghost use Rattle.class_joins.specs.Asked.{CountsAsked};
-ghost use Rattle.class_joins.specs.Nodes.{nodes_of};
-ghost use Rattle.class_joins.specs.Table.{IsTrueOfOne};
+ghost use Rattle.replicate_merge.specs.Asked.{CountsAsked};
+ghost use Rattle.replicate_merge.specs.Nodes.{nodes_of};
+ghost use Rattle.replicate_merge.specs.Table.{IsTrueOfOne};
 ghost use Rattle.replicate_merge.specs.AtOnce.{HasAllWays, HasOwnNodes, HasOwnWays, IsHostAlone};
 
+use crate::Joined;
 use crate::starting::lone_host;
 use crate::ways::{TURNS, is_found, own_ways};
-use class_joins::Joined;
 use probe::{Journal, WalkIndex};
 use std::alloc::{AllocError, Global};
 

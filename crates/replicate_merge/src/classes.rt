@@ -6,9 +6,9 @@ ghost use Rattle.net_defs.specs.Turn.{IsTurn};
 ghost use Rattle.journal_defs.specs.Tree.{is_found};
 ghost use Rattle.journal_defs.specs.Tree.Node.{Reached};
 ghost use Rattle.probe.specs.Keeping.{has_walk};
-ghost use Rattle.class_joins.specs.Table.{IsTrueOfOne, StandsFor};
+ghost use Rattle.replicate_merge.specs.Table.{IsTrueOfOne, StandsFor};
 ghost use Rattle.replicate_merge.specs.Next.{HasNext, StandsForNext};
-ghost use Rattle.class_joins.specs.Steps.{HasRoomForNode, SameItems};
+ghost use Rattle.replicate_merge.specs.Steps.{HasRoomForNode, SameItems};
 ghost use Rattle.replicate_merge.specs.Between.{AddsEntry, CountsTurn, HasSeenFrames, IsFrontOf, looking_ahead};
 ghost use Rattle.replicate_merge.specs.Between.{turns_of, with_orphan};
 ghost use Rattle.replicate_merge.specs.Merged.{without_tables};
@@ -20,7 +20,7 @@ use crate::merged::Merged;
 use crate::pushing::{asked_behind, ways_added};
 use crate::starting::lone_host;
 use crate::ways::{TURNS, is_found};
-use class_joins::{Joined, Way};
+use crate::{Joined, Way};
 use net_defs::Walk;
 use port_align::ClassFrame;
 use probe::{Entry, Journal, WalkIndex};
@@ -50,9 +50,9 @@ pub struct Classes {
 
 impl Model for Classes {
     ghost use Rattle.std.specs.Prelude.{◌≡◌, []};
-    ghost use Rattle.class_joins.specs.Table.{ClassTable, IsTable};
+    ghost use Rattle.replicate_merge.specs.Table.{ClassTable, IsTable};
     ghost use Rattle.replicate_merge.specs.Seen.{class_table, kept_of};
-    ghost use Rattle.class_joins.specs.Kept.{IsShaped};
+    ghost use Rattle.replicate_merge.specs.Kept.{IsShaped};
 
     ghost Value = { ClassTable };
 

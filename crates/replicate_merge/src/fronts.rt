@@ -3,7 +3,7 @@
 ghost use Rattle.std.specs.Prelude.{◌≡◌, ◌+◌, ◌<◌, ◌^◌, length, slice_get, true, is_some, Some, IfSome};
 ghost use Rattle.probe.specs.Keeping.{has_walk};
 ghost use Rattle.replicate_merge.specs.Between.{IsFrontOf};
-ghost use Rattle.class_joins.specs.Nodes.{nodes_of};
+ghost use Rattle.replicate_merge.specs.Nodes.{nodes_of};
 
 use probe::WalkIndex;
 

@@ -4,8 +4,8 @@
 ghost use Rattle.std.specs.Prelude.{◌≡◌, ◌+◌, ◌++◌, ◌∷◌, [], ◌<◌, false, true, if◌then◌else◌, length, take, IfOk, OnOk};
 ghost use Rattle.journal_defs.specs.Tree.{is_found, nodes};
 ghost use Rattle.probe.specs.Keeping.{has_walk};
-ghost use Rattle.class_joins.specs.Asked.{CountsAsked, HasOrphans};
-ghost use Rattle.class_joins.specs.Nodes.{nodes_of};
+ghost use Rattle.replicate_merge.specs.Asked.{CountsAsked, HasOrphans};
+ghost use Rattle.replicate_merge.specs.Nodes.{nodes_of};
 ghost use Rattle.replicate_merge.specs.AtOnce.{AreOrphans};
 
 use crate::fronts::{Front, front_of};

@@ -2,7 +2,7 @@
 
 ghost use Rattle.std.specs.Prelude.{◌≡◌, ◌<◌, length, slice_get, Some};
 ghost use Rattle.net_defs.specs.Turn.{IsTurn};
-ghost use Rattle.class_joins.specs.Nodes.{nodes_of};
+ghost use Rattle.replicate_merge.specs.Nodes.{nodes_of};
 
 use port_align::ClassFrame;
 use probe::WalkIndex;
@@ -20,7 +20,7 @@ pub struct Merged {
 }
 
 impl Model for Merged {
-    ghost use Rattle.class_joins.specs.Table.{ClassTable, IsTable};
+    ghost use Rattle.replicate_merge.specs.Table.{ClassTable, IsTable};
     ghost use Rattle.replicate_merge.specs.Merged.{merged_table};
 
     ghost Value = { ClassTable };

@@ -3,12 +3,12 @@
 ghost use Rattle.std.specs.Prelude.{◌≡◌, ◌≤◌, ◌+◌, ◌++◌, ◌∷◌, [], ◌<◌, ◌^◌, ◌-ℤ◌, if◌then◌else◌, pos, true, false};
 ghost use Rattle.std.specs.Prelude.{length, slice_get, Some, IfOk, OnOk};
 ghost use Rattle.journal_defs.specs.Walks.{onward_turns};
-ghost use Rattle.class_joins.specs.Nodes.{nodes_of};
+ghost use Rattle.replicate_merge.specs.Nodes.{nodes_of};
 ghost use Rattle.replicate_merge.specs.Onward.{AddsBelow, AreNewWays, AreOnce, is_known, known_among};
 ghost use Rattle.replicate_merge.specs.Behind.{AddsBehind};
 
+use crate::Way;
 use crate::ways::{own_ways, push_both};
-use class_joins::Way;
 use net_defs::Answer;
 use probe::WalkIndex;
 use std::alloc::{AllocError, Global};

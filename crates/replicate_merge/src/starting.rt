@@ -3,7 +3,7 @@
 ghost use Rattle.std.specs.Prelude.{◌≡◌, IfOk};
 ghost use Rattle.replicate_merge.specs.AtOnce.{IsHostAlone};
 
-use class_joins::{Joined, Way};
+use crate::{Joined, Way};
 use std::alloc::{AllocError, Global};
 
 /// The mapper's host, with its way, as the one class.

@@ -2,13 +2,13 @@
 
 ghost use Rattle.std.specs.Prelude.{◌≡◌, ◌+◌, ◌++◌, ◌<◌, ◌^◌, length, Some, IfOk, OnOk};
 ghost use Rattle.journal_defs.specs.Tree.{is_found};
-ghost use Rattle.class_joins.specs.Nodes.{nodes_of};
+ghost use Rattle.replicate_merge.specs.Nodes.{nodes_of};
 ghost use Rattle.replicate_merge.specs.Cables.{host_ways, both_ways, AddsCables};
 ghost use Rattle.replicate_merge.specs.Onward.{AreOnce};
 ghost use Rattle.replicate_merge.specs.Own.{AreOwnWays};
 
+use crate::Way;
 use crate::fronts::find_near;
-use class_joins::Way;
 use net_defs::Answer;
 use probe::WalkIndex;
 use std::alloc::{AllocError, Global};

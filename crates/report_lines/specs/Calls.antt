@@ -7,11 +7,11 @@ use Rattle.port_ledgers.specs.declared.lane.PortName.{PortName}
 use Rattle.port_ledgers.specs.declared.lane.ToldPlace.{ToldPlace}
 use Rattle.run_defs.specs.declared.line.ClientCall.{ClientCall}
 use Rattle.run_defs.specs.declared.line.ClientCall.TheVariants.{Begin, Close, Provide, Send, Poll, Tokens}
-use Rattle.line_forms.specs.declared.line.ReportLine.{ReportLine}
-use Rattle.line_forms.specs.declared.line.ReportLine.TheVariants.{Opened, Closed, Provided, Accepted, Returned}
-use Rattle.line_forms.specs.declared.line.ReportLine.TheVariants.{Received, NothingCame, CallRefused}
-use Rattle.line_forms.specs.declared.line.ReportLine.TheVariants.{Tokens as TokensShown}
-use Rattle.line_forms.specs.Words.{number_said, value_said, host_said, is_empty, is_count}
+use Rattle.report_lines.specs.declared.line.ReportLine.{ReportLine}
+use Rattle.report_lines.specs.declared.line.ReportLine.TheVariants.{Opened, Closed, Provided, Accepted, Returned}
+use Rattle.report_lines.specs.declared.line.ReportLine.TheVariants.{Received, NothingCame, CallRefused}
+use Rattle.report_lines.specs.declared.line.ReportLine.TheVariants.{Tokens as TokensShown}
+use Rattle.report_lines.specs.Words.{number_said, value_said, host_said, is_empty, is_count}
 use Rattle.report_lines.specs.Bytes.{bytes_said}
 use Rattle.report_lines.specs.Places.{both_said}
 

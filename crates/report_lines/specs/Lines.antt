@@ -2,8 +2,8 @@
 use Rattle.std.specs.Prelude.{ℕ, List, [], ◌∷◌, codes, bytes_eq, if◌then◌else◌, Option, Some, None}
 use Rattle.net_defs.specs.Network.{Network}
 use Rattle.run_defs.specs.declared.line.ClientCall.{ClientCall}
-use Rattle.line_forms.specs.declared.line.ReportLine.{ReportLine}
-use Rattle.line_forms.specs.Forms.{route_said, other_said}
+use Rattle.report_lines.specs.declared.line.ReportLine.{ReportLine}
+use Rattle.report_lines.specs.Forms.{route_said, other_said}
 use Rattle.report_lines.specs.Calls.{call_named, call_said}
 
 -- a line by its first word

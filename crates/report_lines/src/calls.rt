@@ -2,13 +2,13 @@
 
 ghost use Rattle.std.specs.Prelude.{◌≡◌, option_map};
 ghost use Rattle.fab_text.specs.Line.{words_of};
-ghost use Rattle.line_forms.specs.declared.line.ReportLine.{ReportLine};
+ghost use Rattle.report_lines.specs.declared.line.ReportLine.{ReportLine};
 ghost use Rattle.report_lines.specs.Calls.{port_said, is_cause_of, is_cause, refused_said, opened_said, one_value};
 ghost use Rattle.report_lines.specs.Calls.{closed_said, token_said, token_of, call_named};
 ghost use Rattle.report_lines.specs.Calls.{is_close_cause, is_provide_cause, is_send_cause};
 
+use crate::{ReportLine, host, is_count, is_empty, small, value};
 use fab_text::Words;
-use line_forms::{ReportLine, host, is_count, is_empty, small, value};
 use port_graph::Fabric;
 use port_ledgers::PortName;
 use run_defs::ClientCall;

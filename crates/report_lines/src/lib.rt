@@ -1,28 +1,49 @@
 //! One line of a report, read by its words: what it says, as far as anything of it is judged.
 //!
 //! It judges nothing: a line that says what can't be is read like any other. `specs/Lines.antt` says which words are a
-//! line and what they say; `specs/Calls.antt` has the lines of client calls, and `line_forms` the others.
+//! line and what they say; `specs/Calls.antt` has the lines of client calls, `specs/Forms.antt` the others, and
+//! `specs/Words.antt` what single words say.
 //!
 //! ```text
-//!   route a b +1 -2                        Route(..)                           `line_forms` reads it
+//!   map a complete asks 31 packets 60      Map { host: 0, said: Complete }     how many asks isn't judged
+//!   route a b +1 -2                        Route(..)
+//!   step arrived b probe                   Step                                what an event did isn't judged
+//!   walk switch s port 9                   none where s has no port 9
 //!   poll b 1 sent token 70000              Returned { port: b 1, token: 70000 } whether b has it isn't asked here
 //!   poll b 9 nothing                       none: a host has no port 9
 //! ```
 //!
 //! | module | has |
 //! |---|---|
-//! | `bytes` | the bytes of a message |
-//! | `places` | where tokens are |
+//! | `line` | what a line says |
+//! | `reading` | a line by its first word |
+//! | `by_word` | a line of no client call by its first word |
+//! | `maps` | lines of maps, circuits, ranks and installations |
+//! | `route_line` | the line of a route |
+//! | `cables` | lines of cables, and of routes that they break |
 //! | `calls` | lines of client calls |
 //! | `polls` | lines of `poll` and `tokens` |
-//! | `reading` | a line by its first word |
+//! | `places` | where tokens are |
+//! | `forms` | lines of which only the form is judged |
+//! | `word`, `bytes` | single words: hosts, ends, numbers, vertices of a map; the bytes of a message |
 #![tactic(auto)]
 
+mod by_word;
 mod bytes;
+mod cables;
 mod calls;
+mod forms;
+mod line;
+mod maps;
 mod places;
 mod polls;
 mod reading;
+mod route_line;
+mod word;
 
-pub use line_forms::{MapSaid, PlacesSaid, ReceivedLine, ReportLine, TokensLine};
+pub(crate) use by_word::read_other;
+pub use line::{MapSaid, PlacesSaid, ReceivedLine, ReportLine, TokensLine};
 pub use reading::read_line;
+pub(crate) use route_line::read_route;
+pub use word::host;
+pub(crate) use word::{is_count, is_empty, small, value};

@@ -3,10 +3,10 @@
 ghost use Rattle.std.specs.Prelude.{◌≡◌, IfOk, option_map, nat_eq, position};
 ghost use Rattle.fab_text.specs.Line.{words_of};
 ghost use Rattle.report_lines.specs.Places.{with_client_said, placed, place_said, places_said, both_said};
-ghost use Rattle.line_forms.specs.Words.{value_said};
+ghost use Rattle.report_lines.specs.Words.{value_said};
 
+use crate::{PlacesSaid, value};
 use fab_text::Words;
-use line_forms::{PlacesSaid, value};
 use port_ledgers::ToldPlace;
 use std::alloc::{AllocError, Global};
 

@@ -7,8 +7,8 @@ ghost use Rattle.report_lines.specs.Calls.{body_said, came_from, received_said, 
 use crate::bytes::read_bytes;
 use crate::calls::returned;
 use crate::places::read_both;
+use crate::{ReceivedLine, ReportLine, TokensLine, host, is_empty, small, value};
 use fab_text::Words;
-use line_forms::{ReceivedLine, ReportLine, TokensLine, host, is_empty, small, value};
 use port_graph::Fabric;
 use port_ledgers::PortName;
 use std::alloc::{AllocError, Global};

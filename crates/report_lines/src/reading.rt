@@ -7,8 +7,8 @@ ghost use Rattle.report_lines.specs.Lines.{line_said};
 
 use crate::calls::{accepted, call_named, closed, opened, port, provided, refused};
 use crate::polls::{polled, tokens};
+use crate::{ReportLine, read_other, read_route};
 use fab_text::{Words, words};
-use line_forms::{ReportLine, read_other, read_route};
 use port_graph::Fabric;
 use port_ledgers::PortName;
 use run_defs::ClientCall;

@@ -2,7 +2,7 @@
 
 ghost use Rattle.std.specs.Prelude.{◌≡◌, ◌<◌, ◌≤◌, ◌^◌, length, true, Some, None, IfOk, IfSome, IsSome};
 ghost use Rattle.net_defs.specs.Refusal.{Refuses};
-ghost use Rattle.mapping_defs.specs.Mapping.{is_part, entries_front, whole};
+ghost use Rattle.mapper_bodies.specs.Mapping.{is_part, entries_front, whole};
 ghost use Rattle.packet_defs.specs.RouteByte.{turns_of};
 ghost use Rattle.route_parts.specs.Reading.{part_behind, rise_from, missing};
 ghost use Rattle.route_parts.specs.Viewing.{part_viewed, is_ruled};
@@ -14,8 +14,8 @@ use crate::head::Head;
 use crate::part::RoutePart;
 use crate::routes::{entry_front, rise_from, route_front};
 use net_defs::Walk;
+use packet_defs::{TurnFault, walk_of};
 use std::alloc::Global;
-use turn_bytes::{TurnFault, walk_of};
 
 /// The part of these numbers whose routes are all of the bytes.
 pub(crate) fn part_behind(alloc: Global, head: Head, bytes: &[u8]) -> Result<RoutePart, BodyFault>

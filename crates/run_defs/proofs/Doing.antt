@@ -15,7 +15,7 @@ use Rattle.world_defs.specs.Step.{step, steps, after_all}
 use Rattle.world_defs.specs.Row.{IsRow}
 use Rattle.world_defs.specs.Logs as log
 use Rattle.world_defs.proofs.LogRows.{settle-row, asks-row, install-row, row-of, all-map, byte_settles, byte_asks}
-use Rattle.act_defs.specs.Acts.{Happens, acted_all}
+use Rattle.world_defs.specs.Acts.{Happens, acted_all}
 use Rattle.run_defs.specs.declared.command.Command.{Command}
 use Rattle.run_defs.specs.declared.command.Command.TheVariants.{Map, Circuit, Routes}
 use Rattle.run_defs.specs.declared.line.MapWords.{MapWords}

@@ -1,7 +1,7 @@
 -- What a command is: a deed, of acts in order, of what is printed, and of what is kept of it. The world after it
 -- follows from its acts.
 use Rattle.std.specs.Prelude.{List, [], Some}
-use Rattle.act_defs.specs.Acts.{Act, acted_all}
+use Rattle.world_defs.specs.Acts.{Act, acted_all}
 use Rattle.duo_defs.specs.Duo.{DuoState}
 use Rattle.run_defs.specs.declared.line.Line.{Line}
 use Rattle.run_defs.specs.Output.{Piece, lines}

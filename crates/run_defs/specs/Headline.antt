@@ -10,7 +10,7 @@ use Rattle.map_defs.specs.NetMap.{NetMap}
 use Rattle.map_defs.specs.Sameness.{IsMapOfPart}
 use Rattle.world_defs.specs.World.{WorldState, fabric_of}
 use Rattle.world_defs.specs.EightBits.{IsByteFault}
-use Rattle.act_defs.specs.Acts.{AlwaysSound}
+use Rattle.world_defs.specs.Acts.{AlwaysSound}
 use Rattle.run_defs.specs.declared.command.Command.{Command}
 use Rattle.run_defs.specs.declared.command.Command.TheVariants.{Map, Circuit, Plan}
 use Rattle.run_defs.specs.declared.line.MapWords.{MapWords}

@@ -37,7 +37,7 @@ use Rattle.world_defs.specs.World.{adoption_of, adopted_by, last_count, addresse
 use Rattle.world_defs.specs.Step.{step, steps}
 use Rattle.world_defs.specs.Traffic.{is_broken}
 use Rattle.world_defs.specs.Settle.{unacknowledged_in}
-use Rattle.act_defs.specs.Acts.{Happens, Plans, Adopts}
+use Rattle.world_defs.specs.Acts.{Happens, Plans, Adopts}
 use Rattle.world_defs.specs.Log.{Log}
 use Rattle.world_defs.specs.Logs as log
 use Rattle.run_defs.specs.declared.command.Command.{Command}

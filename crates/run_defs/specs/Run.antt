@@ -14,7 +14,7 @@ use Rattle.map_defs.specs.Orientation.{order_of}
 use Rattle.map_defs.specs.Routing.{AreRoutesOf}
 use Rattle.map_defs.specs.Ranks.{ranks_of}
 use Rattle.world_defs.specs.World.{WorldState, fabric_of, addresses}
-use Rattle.act_defs.specs.Acts.{Happens}
+use Rattle.world_defs.specs.Acts.{Happens}
 use Rattle.run_defs.specs.declared.command.Command.{Command}
 use Rattle.run_defs.specs.declared.command.Command.TheVariants.{Map, Circuit, Routes}
 use Rattle.run_defs.specs.declared.line.MapWords.{MapWords}

@@ -5,3 +5,6 @@ pub mod OneRun
 pub mod Ranked
 pub mod Reaching
 pub mod RunsOnce
+pub mod Shortest
+pub mod InstallLines
+pub mod SettleLines

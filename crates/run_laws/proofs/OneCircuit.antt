@@ -5,8 +5,8 @@ use Rattle.journal_defs.specs.declared.entry.Entry.{Entry}
 use Rattle.journal_defs.specs.Growth.{IsEndedAtLimit}
 use Rattle.circ_defs.specs.Asking.{IsTreeEnded}
 use Rattle.circ_defs.specs.CircuitMap.{IsCircuitMap}
-use Rattle.circ_map_laws.proofs.OneTree.{tree_is_one}
-use Rattle.circ_map_laws.proofs.OneCircuit.{circuit_map_is_one}
+use Rattle.circ_laws.proofs.OneTree.{tree_is_one}
+use Rattle.circ_laws.proofs.OneCircuit.{circuit_map_is_one}
 use Rattle.run_defs.specs.declared.line.Line.TheVariants.{Circuit, CircuitNodes}
 use Rattle.run_defs.specs.Circuit.{IsCircuitTold}
 use Rattle.run_defs.specs.Circuit.IsCircuitTold.{whole, too_many_nodes}

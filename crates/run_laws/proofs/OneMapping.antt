@@ -11,8 +11,8 @@ use Rattle.journal_defs.proofs.Grown.{two_hosts_closed}
 use Rattle.map_defs.specs.NetMap.{NetMap}
 use Rattle.map_defs.specs.Core.{core_of}
 use Rattle.map_defs.specs.Quotient.{IsQuotient}
-use Rattle.growth_laws.specs.Laws.{IsTold}
-use Rattle.growth_laws.proofs.OneJournal.{told_journal_is_one}
+use Rattle.map_laws.specs.Laws.{IsTold}
+use Rattle.map_laws.proofs.OneJournal.{told_journal_is_one}
 use Rattle.map_laws.proofs.OneMap.{quotient_is_one}
 use Rattle.world_defs.specs.World.{WorldState, new_world}
 use Rattle.world_defs.specs.Logs as log

@@ -6,7 +6,7 @@ use Rattle.net_defs.specs.Network.{Network, IsFabric}
 use Rattle.cable_history.specs.History.{CableHistory, IsHistory, fabric_at}
 use Rattle.cable_history.specs.Crossed.{leaving}
 use Rattle.cable_history.proofs.Now.{last_is_now}
-use Rattle.act_defs.proofs.Kept.{CablesKept}
+use Rattle.world_defs.proofs.ActsKept.{CablesKept}
 use Rattle.journal_defs.specs.declared.entry.Entry.{Entry}
 use Rattle.world_defs.specs.declared.event.Event.{Event}
 use Rattle.world_defs.specs.declared.event.Event.TheVariants.{Begin, Close, Provide, Send, Poll, Pull, Plug}
@@ -30,7 +30,7 @@ use Rattle.run_defs.proofs.Doing.Doing.{determined, maps, circuits, routes}
 use Rattle.run_defs.proofs.ByKind.{InDeed, EventsOf, IsLaw, by-kind, outcome-law}
 use Rattle.run_defs.proofs.ByKind.EventsOf.{one as single, settles, revokes}
 use Rattle.run_defs.specs.Run.Runs.{ended, goes_on}
-use Rattle.act_defs.specs.Acts.{Happens, MayActAll, AreAdoptable}
+use Rattle.world_defs.specs.Acts.{Happens, MayActAll, AreAdoptable}
 use Rattle.table_laws.proofs.Dependencies.{installed-no_cycle}
 use Rattle.run_defs.specs.Headline.{FitsFabric}
 use Rattle.mapping_laws.specs.Runs.{IsSessionOf}

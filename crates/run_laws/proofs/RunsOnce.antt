@@ -9,7 +9,7 @@ use Rattle.map_defs.specs.NetMap.{NetMap}
 use Rattle.map_defs.specs.Orientation.{order_of}
 use Rattle.map_defs.specs.Routing.{AreRoutesOf}
 use Rattle.world_defs.specs.World.{WorldState, fabric_of}
-use Rattle.act_defs.specs.Acts.{Happens}
+use Rattle.world_defs.specs.Acts.{Happens}
 use Rattle.run_defs.specs.declared.command.Command.{Command}
 use Rattle.run_defs.specs.declared.command.Command.TheVariants.{Map, Routes}
 use Rattle.run_defs.specs.declared.line.Line.TheVariants.{Map as MapLine, MapBusy}

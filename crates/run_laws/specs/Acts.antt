@@ -19,7 +19,7 @@ use Rattle.run_defs.specs.Output.{Piece}
 use Rattle.run_defs.specs.Session.{SessionState}
 use Rattle.run_defs.specs.Outcome.{fault_of}
 use Rattle.run_defs.specs.Run.{IsRun}
-use Rattle.act_defs.specs.Acts.{AreAdoptable, IsReached}
+use Rattle.world_defs.specs.Acts.{AreAdoptable, IsReached}
 
 -- a single event flips eight bits at most
 abbrev pub IsByteStep : StepLine → Type 0

@@ -18,8 +18,8 @@ use Rattle.world_defs.specs.World.{WorldState, fabric_of, adopted_by}
 use Rattle.world_defs.specs.Step.{step, after_all}
 use Rattle.world_defs.specs.Row.{IsPartWay}
 use Rattle.world_defs.proofs.Kept.{step-later}
-use Rattle.act_defs.specs.Acts.{Act, Adopts, acted}
-use Rattle.act_defs.proofs.Kept.{acted-kept}
+use Rattle.world_defs.specs.Acts.{Act, Adopts, acted}
+use Rattle.world_defs.proofs.ActsKept.{acted-kept}
 use Rattle.run_defs.specs.Output.{Piece}
 use Rattle.run_defs.specs.Session.{LastMap, LastRoutes}
 use Rattle.map_canon.specs.Printing.{IsOfFabric, AreOfFabric}

@@ -8,7 +8,7 @@ use Rattle.world_defs.specs.World.{WorldState, fabric_of, may_adopt, adopted_by}
 use Rattle.world_defs.specs.EightBits.{IsByteEvent}
 use Rattle.world_defs.specs.Row.{IsPartWay}
 use Rattle.world_defs.proofs.LogRows.{install-row, byte_asks}
-use Rattle.act_defs.specs.Acts.{acted_all}
+use Rattle.world_defs.specs.Acts.{acted_all}
 use Rattle.run_defs.specs.declared.command.Command.TheVariants.{Install}
 use Rattle.run_defs.specs.declared.line.Line.TheVariants.{Installed, InstallRefused}
 use Rattle.run_defs.specs.declared.line.InstallCause.{InstallCause}

@@ -16,7 +16,7 @@ use Rattle.run_defs.specs.declared.line.Line.TheVariants.{MapBusy, NoMap, Instal
 use Rattle.run_defs.specs.declared.line.InstallCause.TheVariants.{NoRoutes, Busy}
 use Rattle.run_defs.specs.Duos.{begun, beside, IsOther}
 use Rattle.run_defs.specs.Output.{OneLine}
-use Rattle.act_defs.specs.Acts.{Happens, acted_all}
+use Rattle.world_defs.specs.Acts.{Happens, acted_all}
 use Rattle.run_defs.specs.Deed.{Deed, says}
 use Rattle.run_defs.specs.Outcome.{Outcome, settle_lines, installation, may_install, refusal_cause, happening, install_now, routes_refused, duo_done, kind_of, deed_of, seen, outcome}
 use Rattle.run_defs.specs.Run.{IsDeed}

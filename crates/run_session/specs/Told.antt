@@ -5,7 +5,7 @@ use Rattle.journal_defs.specs.declared.entry.Entry.{Entry}
 use Rattle.map_defs.specs.Orientation.{order_of}
 use Rattle.map_defs.specs.Routing.{AreRoutesOf}
 use Rattle.world_defs.specs.World.{WorldState, fabric_of}
-use Rattle.act_defs.specs.Acts.{acted_all}
+use Rattle.world_defs.specs.Acts.{acted_all}
 use Rattle.run_defs.specs.declared.command.Command.{Command}
 use Rattle.run_defs.specs.declared.command.Command.TheVariants.{Map as MapCommand}
 use Rattle.run_defs.specs.Mapped.{IsMapped}

@@ -2,7 +2,7 @@
 use Rattle.std.proofs.Common.{◌≡◌, ℕ, Bool, true, false, List, [], nat_eq, Option, Some, None, is_some, refl, ap, ◌∙◌, if◌then◌else◌}
 use Rattle.gm_defs.specs.declared.token.Took.{Took}
 use Rattle.gm_defs.specs.Body.{part_in}
-use Rattle.mapping_defs.specs.Mapping.{RouteEntry, RoutePart}
+use Rattle.mapper_bodies.specs.Mapping.{RouteEntry, RoutePart}
 use Rattle.world_defs.specs.declared.event.Event.{Event}
 use Rattle.world_defs.specs.declared.event.Event.TheVariants.{Revoke}
 use Rattle.world_defs.specs.declared.effect.Effect.{Effect}
@@ -14,11 +14,11 @@ use Rattle.world_defs.specs.Lane.{lane_acknowledged, lane_after, tickets_finishe
 use Rattle.world_defs.specs.Node.{NodeState, lane_at, with_lane}
 use Rattle.world_defs.specs.Hearing.{frame_lane, ack_lane, message_of, delivered_after, frame_took, ack_heard, hear}
 use Rattle.world_defs.specs.World.{WorldState, host_count, node_at}
-use Rattle.act_defs.specs.Acts.{Act, Happens, acted}
+use Rattle.world_defs.specs.Acts.{Act, Happens, acted}
 use Rattle.world_defs.proofs.Hearings.{Hearing, hearing, delivered_after-rest, all_finished-rest}
 use Rattle.world_defs.proofs.Views.{HostChange}
 use Rattle.world_defs.proofs.Calls.{call_view}
-use Rattle.act_defs.proofs.Hosts.{NodeChange, nodes_view, each_node}
+use Rattle.world_defs.proofs.Hosts.{NodeChange, nodes_view, each_node}
 use Rattle.world_defs.proofs.Tables.{call-table, sent-table}
 
 -- a host's table is still active, if it was

@@ -10,9 +10,9 @@ use Rattle.world_laws.proofs.Along.{Along, clear-along}
 use Rattle.settle_laws.proofs.Calm.{NodeCalm, node-quiet, node-both, hear-calm, given_up-calm}
 use Rattle.world_defs.specs.Client.{Called}
 use Rattle.world_defs.specs.Step.{step}
-use Rattle.act_defs.specs.Acts.{Happens}
+use Rattle.world_defs.specs.Acts.{Happens}
 use Rattle.world_defs.proofs.Views.{HostChange, CallChange, view}
-use Rattle.act_defs.proofs.Hosts.{NodeChange, change-nodes, each_node}
+use Rattle.world_defs.proofs.Hosts.{NodeChange, change-nodes, each_node}
 
 -- each host is calm
 pub record WorldCalm (w v : WorldState) : Type 0 where

@@ -16,7 +16,7 @@ use Rattle.world_defs.specs.Traffic.{sender_on, sent_on, taken_on}
 use Rattle.world_defs.specs.Node.{prio_place, lane_of, prio_of, sending_lane, taking_lane}
 use Rattle.world_defs.proofs.Lanes.{peer_of-lane, prio_of-lane, lane_of-below}
 use Rattle.world_laws.specs.Shape.{IsWorld}
-use Rattle.act_defs.specs.Acts.{IsReached}
+use Rattle.world_defs.specs.Acts.{IsReached}
 use Rattle.message_laws.proofs.Worlds.{reached-ordered}
 use Rattle.message_laws.specs.Windows.{IsWindow}
 use Rattle.message_laws.proofs.Windows.{windows-hold}

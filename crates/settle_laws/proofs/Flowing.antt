@@ -4,7 +4,7 @@ use Rattle.net_defs.specs.Network.{Network}
 use Rattle.world_defs.specs.Traffic.{IsLawfulTraffic}
 use Rattle.link_defs.specs.Links.{Held}
 use Rattle.world_defs.specs.World.{WorldState, epoch_of}
-use Rattle.act_defs.specs.Acts.{IsReached}
+use Rattle.world_defs.specs.Acts.{IsReached}
 use Rattle.table_laws.proofs.Dependencies.{links-of_epoch}
 use Rattle.lawful_laws.specs.Probes.{IsProbe}
 use Rattle.lawful_laws.specs.Former.{is_of_parts, is_former, IsPacketOf, IsExcused}

@@ -14,8 +14,8 @@ use Rattle.world_laws.specs.Reached.{IsOfSettle}
 use Rattle.world_laws.proofs.Leaves.{IsNoCall, quiet-leaves}
 use Rattle.world_laws.proofs.Rounds.{Going, follows-going}
 use Rattle.world_laws.proofs.Along.{Along}
-use Rattle.act_defs.specs.Acts.{Happens, IsReached}
-use Rattle.act_defs.proofs.Reaching.{reached-next}
+use Rattle.world_defs.specs.Acts.{Happens, IsReached}
+use Rattle.world_defs.proofs.Reaching.{reached-next}
 use Rattle.settle_laws.proofs.Sents.{acted-says, sent-place}
 use Rattle.settle_laws.proofs.Facts.{Facts}
 use Rattle.world_defs.specs.declared.effect.Effect.{Effect}

@@ -19,7 +19,7 @@ use Rattle.world_laws.proofs.Clearing.{clear-idle}
 use Rattle.world_defs.proofs.LogRows.{all-map}
 use Rattle.world_laws.proofs.Along.{Along, steps-along, after_all-along, drain-along, clear-along, round_pass-along}
 use Rattle.world_laws.proofs.Reached.{settles-of}
-use Rattle.act_defs.specs.Acts.{IsReached}
+use Rattle.world_defs.specs.Acts.{IsReached}
 use Rattle.settle_laws.proofs.Views.{advance-is, InjectOf, inject-is}
 use Rattle.settle_laws.proofs.Ways.{OnWay}
 use Rattle.settle_laws.proofs.Staged.{IsBare, given_up-bare, given_up-links, sending-bare}

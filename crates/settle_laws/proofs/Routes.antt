@@ -10,15 +10,15 @@ use Rattle.net_defs.specs.Network.{Network}
 use Rattle.cable_history.specs.History.{fabric_at}
 use Rattle.net_defs.specs.Turn.{is_turn, IsTurn}
 use Rattle.net_defs.specs.Route.{place}
-use Rattle.mapping_defs.specs.Mapping.{RouteEntry}
+use Rattle.mapper_bodies.specs.Mapping.{RouteEntry}
 use Rattle.gm_defs.proofs.Choices.{both}
 use Rattle.world_defs.specs.Table.{Adoption, ActiveTable, TableState, at_in, entries_from, table_route}
 use Rattle.world_defs.specs.Traffic.{routes_in, adopted_routes}
 use Rattle.world_defs.specs.World.{WorldState, node_at}
 use Rattle.world_defs.specs.declared.event.Event.{Event}
 use Rattle.world_defs.specs.Step.{step}
-use Rattle.act_defs.specs.Acts.{Happens, IsReached}
-use Rattle.act_defs.proofs.Cables.{reached-cables}
+use Rattle.world_defs.specs.Acts.{Happens, IsReached}
+use Rattle.world_defs.proofs.Cables.{reached-cables}
 use Rattle.table_laws.specs.Set.{IsActive}
 use Rattle.table_laws.proofs.Sets.{RouteFits, routes-fit, entries-all}
 use Rattle.table_laws.proofs.Steps.{hosts-active}

@@ -15,13 +15,13 @@ use Rattle.world_defs.specs.Node.{NodeState, lane_count, sending_lane, taking_la
 use Rattle.world_defs.specs.World.{WorldState, host_count, node_at, new_world}
 use Rattle.world_defs.specs.Traffic.{sent_on, got_on}
 use Rattle.world_laws.specs.Shape.{IsWorld}
-use Rattle.act_defs.specs.Acts.{Act, acted, IsReached}
+use Rattle.world_defs.specs.Acts.{Act, acted, IsReached}
 use Rattle.message_laws.proofs.Frames.{get-front}
 use Rattle.message_laws.proofs.Hosts.{Rules, acted-goes}
 use Rattle.message_laws.proofs.Windows.{numbers_of, reached-windowed}
 use Rattle.message_laws.proofs.Taken.{reached-world}
 use Rattle.world_defs.proofs.Lists.{each-replicate}
-use Rattle.act_defs.proofs.Reaching.{reached-has}
+use Rattle.world_defs.proofs.Reaching.{reached-has}
 use Rattle.settle_laws.proofs.Says.{IsFor, PortFits, SentSo, NodeSays, says-quiet, hear-says, sent-says, expired-says, call-says}
 
 -- each change of a host

@@ -26,7 +26,7 @@ use Rattle.world_laws.proofs.Clearing.{clear-idle}
 use Rattle.world_laws.proofs.Meanings.{base-test, none_left-settled}
 use Rattle.world_laws.proofs.Along.{clear-along, expiries-along, round_pass-along, round-along}
 use Rattle.world_laws.proofs.Reached.{settles-of}
-use Rattle.act_defs.specs.Acts.{IsReached}
+use Rattle.world_defs.specs.Acts.{IsReached}
 use Rattle.message_laws.proofs.Worlds.{reached-ordered}
 use Rattle.message_laws.proofs.Windows.{reached-windowed}
 use Rattle.settle_laws.specs.Settles.{SettleEndsSettled}

@@ -23,13 +23,13 @@ use Rattle.link_defs.specs.declared.moved.Why.TheVariants.{NewCable}
 use Rattle.link_defs.specs.Kinds.{is_mapping}
 use Rattle.link_defs.specs.Switch.{out_by, aim_of}
 use Rattle.link_defs.specs.Advance.{course, course_by_channel, course_out, course_at, course_into}
-use Rattle.mapping_defs.specs.Mapping.{RouteEntry}
+use Rattle.mapper_bodies.specs.Mapping.{RouteEntry}
 use Rattle.gm_defs.specs.declared.frame.ConnectionKey.{ConnectionKey}
 use Rattle.world_defs.specs.Table.{at_in, route_of, table_route, entries_from}
 use Rattle.world_defs.specs.Traffic.{adopted_routes, route_channels, is_cut_walk, is_broken}
 use Rattle.world_defs.specs.World.{WorldState, node_at}
-use Rattle.act_defs.specs.Acts.{IsReached}
-use Rattle.act_defs.proofs.Cables.{reached-cables}
+use Rattle.world_defs.specs.Acts.{IsReached}
+use Rattle.world_defs.proofs.Cables.{reached-cables}
 use Rattle.table_laws.proofs.Uncut.{StillLeaves, still-leaves, no-host, Uncut, none-any, test, stood, first-uncut, on-by}
 use Rattle.settle_laws.proofs.Leading.{LeadsTo}
 use Rattle.settle_laws.proofs.Routes.{route_by, has-active, table-route, route-leads}

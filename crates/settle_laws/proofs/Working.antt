@@ -10,7 +10,7 @@ use Rattle.world_defs.specs.Client.{begun, provided_by, sent_by}
 use Rattle.world_defs.specs.Step.{lost, was_reset, replayed, planned_strikes, sent_out, injected, advanced, expired, gave_up}
 use Rattle.gm_defs.specs.Connection.{connection}
 use Rattle.world_defs.specs.Traffic.{got_on}
-use Rattle.act_defs.specs.Acts.{AreAdoptable}
+use Rattle.world_defs.specs.Acts.{AreAdoptable}
 use Rattle.table_laws.specs.Examples.{adopted_world}
 use Rattle.table_laws.proofs.Dependencies.{adopted-adoptable}
 use Rattle.table_laws.proofs.TwoHosts.{adopted-reached}

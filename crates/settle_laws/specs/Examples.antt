@@ -9,7 +9,7 @@ use Rattle.world_defs.specs.Examples.{setup_routes}
 use Rattle.world_defs.specs.Traffic.{got_on}
 use Rattle.world_defs.specs.Settle.{unacknowledged_in}
 use Rattle.world_defs.specs.Settled.{IsWaiting}
-use Rattle.act_defs.specs.Acts.{Act, Happens, Adopts, acted_all}
+use Rattle.world_defs.specs.Acts.{Act, Happens, Adopts, acted_all}
 use Rattle.message_laws.specs.Examples.{ten}
 use Rattle.settle_laws.specs.Premises.{CanSettle}
 

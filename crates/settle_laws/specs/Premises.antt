@@ -1,7 +1,7 @@
 -- What a world must be for a settle to end settled.
 use Rattle.cable_history.specs.History.{fabric_at}
 use Rattle.world_defs.specs.World.{WorldState}
-use Rattle.act_defs.specs.Acts.{IsReached}
+use Rattle.world_defs.specs.Acts.{IsReached}
 
 -- a world can settle where acts that may happen lead to it from the new one of the fabric that its cables made at first
 pub record CanSettle (w : WorldState) : Type 0 where

@@ -8,7 +8,7 @@ use Rattle.link_defs.specs.Links.{LinkState, is_idle}
 use Rattle.link_defs.specs.Fault.{accept}
 use Rattle.world_defs.specs.Table.{Adoption}
 use Rattle.world_defs.specs.World.{WorldState, keeps_epoch, standing_of, may_adopt, adoption_of, adopted_by}
-use Rattle.act_defs.specs.Acts.{IsReached}
+use Rattle.world_defs.specs.Acts.{IsReached}
 use Rattle.install_laws.proofs.Epochs.{adopted-unrevoked}
 use Rattle.route_install.specs.Installing.{AreHosts}
 use Rattle.adopted_routes.specs.Adopting.{adopt_refusal, is_among}

@@ -8,7 +8,7 @@ use Rattle.link_defs.specs.Links.{is_idle}
 use Rattle.world_defs.specs.Table.{Adoption}
 use Rattle.world_defs.specs.World.{WorldState, last_count}
 use Rattle.world_defs.proofs.LogViews.{installed}
-use Rattle.act_defs.specs.Acts.{IsReached}
+use Rattle.world_defs.specs.Acts.{IsReached}
 use Rattle.install_laws.specs.Premises.{IsJoined, CanInstall}
 use Rattle.install_laws.specs.Counts.{TellsCause}
 use Rattle.install_laws.proofs.Counting.{tells-cause}

@@ -7,7 +7,7 @@ use Rattle.net_defs.specs.Network.{Network}
 use Rattle.link_defs.specs.Links.{is_idle}
 use Rattle.world_defs.specs.Table.{Adoption, has_revoked}
 use Rattle.world_defs.specs.World.{WorldState, host_count, node_at, may_adopt, adoption_of, adopted_by}
-use Rattle.act_defs.specs.Acts.{IsReached}
+use Rattle.world_defs.specs.Acts.{IsReached}
 use Rattle.route_install.specs.declared.installer.Work.{Work}
 use Rattle.route_install.specs.Installing.{AreHosts, Installation, new_work, after_ack, after_silence, acked_of}
 use Rattle.adopted_routes.specs.Adopting.{is_among, part_count_for}

@@ -10,7 +10,7 @@ use Rattle.cable_history.specs.History.{CableHistory, fabric_at, stood_at}
 use Rattle.cable_history.specs.Crossed.{channels_at}
 use Rattle.cable_history.proofs.Standing.{compact, channels-compact}
 use Rattle.packet_defs.specs.declared.kind.Kind.{Kind}
-use Rattle.mapping_defs.specs.Mapping.{RouteEntry}
+use Rattle.mapper_bodies.specs.Mapping.{RouteEntry}
 use Rattle.net_defs.specs.Dependencies.{IsNext, IsBefore, HasNoCycle}
 use Rattle.net_defs.proofs.Cycles.{no_cycle-rising}
 use Rattle.world_defs.specs.Table.{Adoption, ActiveTable, at_in, entries_from}
@@ -19,10 +19,10 @@ use Rattle.world_defs.specs.Traffic.{route_channels}
 use Rattle.world_defs.specs.Sound.{entries_in, channels_from, channels_from_all, installed_channels}
 use Rattle.net_defs.specs.RouteSet.{channels_of_all}
 use Rattle.table_laws.specs.Set.{IsActive, IsActiveOfSet}
-use Rattle.act_defs.specs.Acts.{IsReached}
+use Rattle.world_defs.specs.Acts.{IsReached}
 use Rattle.table_laws.specs.Acts.{CablesAreHistory, TablesAreOfSet, ActiveIsOfSet, AdoptedIsAdoptable, LinksAreOfEpoch, PartsAreOfSet, InstalledHasNoCycle}
-use Rattle.act_defs.proofs.Reaching.{reached-has}
-use Rattle.act_defs.proofs.Cables.{reached-cables}
+use Rattle.world_defs.proofs.Reaching.{reached-has}
+use Rattle.world_defs.proofs.Cables.{reached-cables}
 use Rattle.table_laws.proofs.Medium.{honest-read}
 use Rattle.table_laws.proofs.Sets.{entries-all}
 use Rattle.table_laws.specs.Bodies.{IsBody}

@@ -18,7 +18,7 @@ use Rattle.world_defs.specs.EightBits.{IsByteFault, IsByteEvent, HasByteFaults}
 use Rattle.world_defs.specs.Node.{Outgoing, to_send, packet_for, after_sending}
 use Rattle.world_defs.specs.World.{WorldState, last_count, node_at, keeps_out, keeps_epoch}
 use Rattle.world_defs.specs.Step.{planned_strikes, sent_out}
-use Rattle.act_defs.specs.Acts.{Act, Happens, Plans, Adopts, acted, IsByteAct}
+use Rattle.world_defs.specs.Acts.{Act, Happens, Plans, Adopts, acted, IsByteAct}
 use Rattle.world_defs.proofs.Views.{LinksChange, Change, view}
 use Rattle.world_defs.proofs.Strikes.{fault_step, Strike, strike_view, injection-nodes}
 use Rattle.world_defs.proofs.Kept.{planned_one}

@@ -13,13 +13,13 @@ use Rattle.cable_history.proofs.Now.{last_is_now}
 use Rattle.cable_history.proofs.Later.{later-past}
 use Rattle.link_defs.specs.Links.{Held}
 use Rattle.link_defs.specs.Fault.{accept, epoch_limit}
-use Rattle.mapping_defs.specs.Mapping.{RouteEntry, RoutePart}
+use Rattle.mapper_bodies.specs.Mapping.{RouteEntry, RoutePart}
 use Rattle.world_defs.specs.declared.event.Event.{Event}
 use Rattle.world_defs.specs.declared.effect.Effect.{Effect}
 use Rattle.world_defs.specs.Table.{Adoption, ActiveTable, TableState, last_epoch, epoch_in, at_in, revoked_table, whole_table}
 use Rattle.world_defs.specs.Node.{NodeState, Staged, StagedProbe, StagedPart, packet_for, new_node}
 use Rattle.world_defs.specs.World.{WorldState, host_count, new_world, node_at, with_node, first_unrevoked, standing_of, adopted_by}
-use Rattle.act_defs.specs.Acts.{Act, Happens, Plans, Adopts, acted, AreAdoptable, MayAct}
+use Rattle.world_defs.specs.Acts.{Act, Happens, Plans, Adopts, acted, AreAdoptable, MayAct}
 use Rattle.world_defs.specs.EightBits.{IsByteFault, IsByteEvent}
 use Rattle.table_laws.specs.Set.{IsPart, IsActive, IsCollected, IsBare, IsTable}
 use Rattle.table_laws.specs.Packets.{IsHonest}
@@ -29,11 +29,11 @@ use Rattle.world_defs.specs.Step.{gives_up_epoch, step}
 use Rattle.world_defs.proofs.Lists.{each-set, each-replicate}
 use Rattle.world_defs.proofs.Views.{HostChange, Change, view}
 use Rattle.world_defs.proofs.Calls.{call_view}
-use Rattle.act_defs.proofs.Cables.{HasCables}
-use Rattle.act_defs.proofs.Epochs.{HasRevoked, each-revoked, Adopting, adopting}
-use Rattle.act_defs.proofs.Hosts.{NodeChange, NodesChange, change-nodes, each_node}
-use Rattle.act_defs.proofs.Kept.{accepted-past}
-use Rattle.act_defs.proofs.LinkEpochs.{change-epoch}
+use Rattle.world_defs.proofs.Cables.{HasCables}
+use Rattle.world_defs.proofs.AdoptedEpochs.{HasRevoked, each-revoked, Adopting, adopting}
+use Rattle.world_defs.proofs.Hosts.{NodeChange, NodesChange, change-nodes, each_node}
+use Rattle.world_defs.proofs.ActsKept.{accepted-past}
+use Rattle.world_defs.proofs.LinkEpochs.{change-epoch}
 use Rattle.world_defs.proofs.Kept.{change-later, change-adopted, change-plan, with-all}
 use Rattle.table_laws.proofs.Hosts.{hear-host, sent-built, after_sending-host, given_up-host, staged-host, node_expired-host, call-host}
 use Rattle.table_laws.proofs.Medium.{Holds, weaker-holds, empty-holds, carries-honest}

@@ -16,13 +16,13 @@ use Rattle.link_defs.specs.Mark.{Tells, HasTrueMark}
 use Rattle.std.proofs.lemmas.List.{append-nil}
 use Rattle.world_defs.specs.Node.{Outgoing, to_send, packet_for}
 use Rattle.world_defs.specs.World.{WorldState, new_world, node_at}
-use Rattle.act_defs.specs.Acts.{Act, acted, acted_all, IsByteAct}
+use Rattle.world_defs.specs.Acts.{Act, acted, acted_all, IsByteAct}
 use Rattle.table_laws.specs.Provenance.{moment, IsLeftOf, ChannelsHoldWhatWasBuilt, LimboHoldsWhatWasBuilt, FlippedIsDropped}
 use Rattle.table_laws.proofs.Medium.{Holds, Carries, weaker-holds, empty-holds, tells-stripped, flipped-tells, no_turn}
 use Rattle.table_laws.proofs.Hosts.{packet-shape}
 use Rattle.world_defs.specs.EightBits.{IsByteFault}
-use Rattle.act_defs.proofs.Kept.{acted-plan}
-use Rattle.act_defs.proofs.Reaching.{acted_all-last}
+use Rattle.world_defs.proofs.ActsKept.{acted-plan}
+use Rattle.world_defs.proofs.Reaching.{acted_all-last}
 use Rattle.table_laws.proofs.Keeping.{acted-holds}
 
 -- each packet is from a host, and its mark is true

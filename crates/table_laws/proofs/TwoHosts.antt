@@ -5,7 +5,7 @@ use Rattle.net_defs.proofs.TwoHosts.{two_hosts_fabric}
 use Rattle.net_defs.specs.Dependencies.{IsNext, IsBefore}
 use Rattle.world_defs.specs.Examples.{setup_routes}
 use Rattle.net_defs.specs.RouteSet.{channels_of_all}
-use Rattle.act_defs.specs.Acts.{AreAdoptable}
+use Rattle.world_defs.specs.Acts.{AreAdoptable}
 use Rattle.table_laws.specs.Examples.{one_adoption, AdoptedIsReached, OneTableIsActive}
 use Rattle.table_laws.proofs.Dependencies.{rise-at}
 

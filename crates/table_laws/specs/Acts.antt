@@ -7,12 +7,12 @@ use Rattle.packet_defs.specs.Burst.{flipped}
 use Rattle.packet_defs.specs.Host.{decode}
 use Rattle.cable_history.specs.History.{IsHistory, fabric_at}
 use Rattle.link_defs.specs.Links.{Held, packet_in}
-use Rattle.mapping_defs.specs.Mapping.{RoutePart, Part, decode_mapping}
+use Rattle.mapper_bodies.specs.Mapping.{RoutePart, Part, decode_mapping}
 use Rattle.net_defs.specs.Dependencies.{IsBefore, HasNoCycle}
 use Rattle.world_defs.specs.Table.{Adoption, ActiveTable, last_epoch, at_in}
 use Rattle.world_defs.specs.World.{WorldState, host_count, node_at, epoch_of}
 use Rattle.world_defs.specs.Sound.{installed_channels}
-use Rattle.act_defs.specs.Acts.{AreAdoptable, IsReached}
+use Rattle.world_defs.specs.Acts.{AreAdoptable, IsReached}
 use Rattle.table_laws.specs.Set.{IsPart, IsActive, IsTable}
 
 -- Why an act that may happen flips eight bits at most: a burst of nine, with the divisor's own bits, leaves no

@@ -3,7 +3,7 @@ use Rattle.std.specs.Prelude.{◌≡◌, pos, List, [], ◌∷◌, Some, None}
 use Rattle.net_defs.specs.Examples.{two_hosts}
 use Rattle.world_defs.specs.World.{WorldState, new_world, node_at}
 use Rattle.world_defs.specs.Examples.{setup_routes}
-use Rattle.act_defs.specs.Acts.{Act, Adopts, acted_all, IsReached}
+use Rattle.world_defs.specs.Acts.{Act, Adopts, acted_all, IsReached}
 
 -- the one act
 abbrev pub one_adoption : List Act

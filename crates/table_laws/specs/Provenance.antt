@@ -10,7 +10,7 @@ use Rattle.packet_defs.specs.Host.{decode}
 use Rattle.link_defs.specs.Links.{Held, packet_in}
 use Rattle.world_defs.specs.Node.{Outgoing, to_send, packet_for}
 use Rattle.world_defs.specs.World.{WorldState, new_world, node_at}
-use Rattle.act_defs.specs.Acts.{Act, acted_all, IsByteAct}
+use Rattle.world_defs.specs.Acts.{Act, acted_all, IsByteAct}
 
 -- a moment of acts: the world after a prefix of them
 abbrev pub moment : Network → List Act → WorldState

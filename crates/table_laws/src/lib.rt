@@ -1,6 +1,6 @@
 //! What holds of the tables of hosts, after every list of acts that may happen.
 //!
-//! It keeps no table, and says nothing of messages. `specs/Acts.antt` of `act_defs` says which acts may happen; here
+//! It keeps no table, and says nothing of messages. `specs/Acts.antt` of `world_defs` says which acts may happen; here
 //! read `specs/Acts.antt` first.
 //!
 //! | file of `specs/` | says |

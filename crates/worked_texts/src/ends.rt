@@ -4,10 +4,10 @@
 //! write that fails is answered as a write fault, and the sink has taken what went before it: so many bytes of the
 //! report as there were writes.
 
+use crate::{Difference, PIECE, Row, Tally, TopCall, Wanted, try_run};
 use fab_outer::{MemSink, MemSource};
 use std::alloc::{AllocError, Global};
 use std::io;
-use text_trials::{Difference, PIECE, Row, Tally, TopCall, Wanted, try_run};
 
 // The exit statuses of a run whose read failed, and of one whose write failed.
 const READ_FAULT: u8 = 4;

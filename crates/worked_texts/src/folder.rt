@@ -1,9 +1,8 @@
 //! The files of the folder.
 
+use crate::{Row, Tally, TopCall, try_cuts, try_refused, try_row};
 use std::alloc::AllocError;
 use std::{fs, io};
-use text_tables::{try_cuts, try_refused};
-use text_trials::{Row, Tally, TopCall, try_row};
 
 /// Runs the text of each file `NAME.in` and the table of each file `NAME.refused`, by name. A file that belongs to
 /// neither fails, but for one without an ending.

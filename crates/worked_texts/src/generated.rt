@@ -1,8 +1,8 @@
 //! A generated text, whose run is one of the folder.
 
+use crate::{Row, Tally, Wanted, compare};
 use fabric_gen::gen_text;
 use std::io;
-use text_trials::{Row, Tally, Wanted, compare};
 
 const NAME: &str = "generated-two-hosts";
 

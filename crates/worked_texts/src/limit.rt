@@ -1,8 +1,8 @@
 //! The longest input, and one that is longer. Both are spaces alone.
 
+use crate::{REFUSED, Tally, TopCall, Wanted, run_word, try_run};
 use fab_outer::{MemSink, MemSource};
 use std::io;
-use text_trials::{REFUSED, Tally, TopCall, Wanted, run_word, try_run};
 
 // The most bytes of an input, and of a read.
 const LONGEST: usize = 1_048_576;

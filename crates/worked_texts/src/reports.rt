@@ -1,10 +1,10 @@
 //! The reports of the folder, each judged after its text.
 
 use crate::folder::files;
+use crate::{Difference, Row, Tally, TopCall, Wanted, try_text};
 use fab_text::Word;
 use std::alloc::{AllocError, Global};
 use std::io;
-use text_trials::{Difference, Row, Tally, TopCall, Wanted, try_text};
 
 // What must come of a report that a run wrote.
 const YES: &[u8] = b"judge yes\n";

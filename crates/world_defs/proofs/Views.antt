@@ -16,7 +16,7 @@ use Rattle.link_defs.specs.Links.{Held, LinkState, packet_in, with_packet, empti
 use Rattle.link_defs.specs.Advance.{course, entered, gone_on, advance_of}
 use Rattle.link_defs.specs.Fault.{lose, reset, repeat, hold, flip, replay, pull, plug}
 use Rattle.link_defs.specs.Step.{Step, Advance as AdvanceLinks, Lose as LoseLinks, Reset as ResetLinks, Repeat as RepeatLinks, Hold as HoldLinks, Flip as FlipLinks, Replay as ReplayLinks, Pull as PullLinks, Plug as PlugLinks, stepped}
-use Rattle.mapping_defs.specs.Mapping.{RoutePart}
+use Rattle.mapper_bodies.specs.Mapping.{RoutePart}
 use Rattle.world_defs.specs.declared.event.Event.{Event}
 use Rattle.world_defs.specs.declared.event.Event.TheVariants.{Ask, Part, Inject, Advance, Lose, Repeat, Hold, Flip, Replay, Reset, Expire, GiveUp, Begin, Close, Provide, Send, Poll, Revoke, Pull, Plug}
 use Rattle.world_defs.specs.declared.effect.Effect.{Effect}

@@ -19,3 +19,5 @@ pub mod World
 pub mod Log
 pub mod Logs
 pub mod Row
+pub mod Acts
+pub mod ActExamples

@@ -20,7 +20,7 @@ use Rattle.link_defs.specs.declared.replayed.Replayed.TheVariants.{Back, Busy, U
 use Rattle.link_defs.specs.Links.{LinkState, packet_in, put}
 use Rattle.link_defs.specs.Advance.{advance}
 use Rattle.link_defs.specs.Fault.{lose, reset, repeat, hold, flip, replay, pull, plug}
-use Rattle.mapping_defs.specs.Mapping.{RoutePart}
+use Rattle.mapper_bodies.specs.Mapping.{RoutePart}
 use Rattle.world_defs.specs.declared.event.Event.{Event}
 use Rattle.world_defs.specs.declared.event.Event.TheVariants.{Ask, Part, Inject, Advance, Lose, Repeat, Hold, Flip}
 use Rattle.world_defs.specs.declared.event.Event.TheVariants.{Replay, Reset, Expire, GiveUp, Begin, Close, Provide}

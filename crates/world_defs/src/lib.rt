@@ -1,5 +1,5 @@
 //! What the world is: all hosts and links of a fabric with their clients, what each event does to them, and what
-//! holds at every moment.
+//! holds at every moment; and what may happen to it: acts, which are events, plans of faults and adoptions of routes.
 //!
 //! This crate holds definitions, the types of events and effects, and worked examples. It runs no world.
 //!
@@ -9,12 +9,13 @@
 //! | `Client` | the tokens that a client holds, and its calls |
 //! | `Hearing` | what a host makes of a packet that reaches it |
 //! | `Step` | one event: its effect, and the world after it |
+//! | `Acts` | what an act does, when it may happen, and what it is that every moment is sound |
 //! | `Drain`, `Settle`, `Asking`, `Install` | what drains, settles, asks and installations are made of |
 //! | `Log`, `Logs` | what a log is, and its words; a drain, a clear, a settle, an ask and an installation, said with them |
 //! | `Row` | events in a row from one world to another, and a part of the way along them |
 //! | `Traffic`, `Sound`, `Settled` | lawful and honest packets, what is sound at a moment, settled connections |
 //! | `Cables` | which events may change the cables |
-//! | `Examples`, `Cuts` | worlds for worked examples |
+//! | `Examples`, `ActExamples`, `Cuts` | worlds and acts for worked examples |
 //!
 //! ```text
 //!   host a                                      host b
@@ -26,6 +27,7 @@
 //! ```
 #![tactic(auto)]
 
+mod act_examples;
 mod applied;
 mod arrival;
 mod client;
@@ -37,6 +39,7 @@ mod fault;
 mod heard;
 mod standing;
 
+pub use act_examples::{flips_that_may_happen, routes_that_may_be_adopted, sound_moment_of_acts};
 pub use applied::Applied;
 pub use arrival::Arrival;
 pub use client::ClientCause;

@@ -5,7 +5,7 @@ use Rattle.std.proofs.lemmas.Bool.{cases_lt}
 use Rattle.std.proofs.lemmas.Bool.Decides.{nat_tests}
 use Rattle.link_defs.specs.Links.{LinkState, packet_in}
 use Rattle.link_defs.specs.Advance.{advance}
-use Rattle.channel_slots.specs.Full.{IsLone}
+use Rattle.link_model.specs.FullSlots.{IsLone}
 use Rattle.link_model.specs.Hop.{IsRun}
 use Rattle.link_model.proofs.Runs.{AreOthersEmpty, behind, advance-leaves, run-others, moved-below}
 use Rattle.world_defs.specs.declared.event.Event.{Event}

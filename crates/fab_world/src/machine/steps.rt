@@ -3,7 +3,7 @@
 ghost use Rattle.std.specs.Prelude.{◌≡◌, ◌≢◌, ◌≤◌, ℕ, length, IfOk, OnErr};
 ghost use Rattle.link_defs.specs.declared.moved.Moved.TheVariants.{To};
 ghost use Rattle.link_defs.specs.Advance.{advance};
-ghost use Rattle.channel_slots.specs.Full.{IsLone};
+ghost use Rattle.link_model.specs.FullSlots.{IsLone};
 ghost use Rattle.world_defs.specs.Step.{advanced};
 ghost use Rattle.world_defs.specs.World.{fabric_of, host_count};
 ghost use Rattle.fab_world.specs.Events.{IsChannelOf};

@@ -4,13 +4,13 @@ ghost use Rattle.std.specs.Prelude.{◌≡◌, ◌≢◌, ◌<◌, ◌≤◌, �
 ghost use Rattle.std.specs.Prelude.{if◌then◌else◌};
 ghost use Rattle.link_defs.specs.Links.{packet_in, emptied};
 ghost use Rattle.link_defs.specs.Advance.{advance, course};
-ghost use Rattle.channel_slots.specs.Full.{IsLone};
+ghost use Rattle.link_model.specs.FullSlots.{IsLone};
 ghost use Rattle.link_model.specs.Hop.{IsHop, IsRun, entered_by};
 
 use super::Links;
+use crate::Slot;
 use crate::course::{course, follow, next_channel, turned, without_turn};
 use crate::hop::{Hop, Run};
-use channel_slots::Slot;
 use link_defs::{Course, Moved};
 use myri_packet::Packet;
 

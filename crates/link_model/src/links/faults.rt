@@ -5,7 +5,7 @@ ghost use Rattle.link_defs.specs.Links.{packet_in, with_packet};
 ghost use Rattle.link_defs.specs.Fault.{lose, reset, repeat, hold, flip, replay, with_caught, is_used_up};
 
 use super::Links;
-use channel_slots::Slot;
+use crate::Slot;
 use link_defs::Replayed;
 use std::alloc::{AllocError, Global};
 

@@ -1,6 +1,6 @@
 use Rattle.std.proofs.Common.{◌≡◌, ◌∙◌, ap, sym, subst, Ok}
 use Rattle.net_defs.specs.Network.{IsFabric}
-use Rattle.class_joins.specs.Table.{IsTrueOfOne}
+use Rattle.replicate_merge.specs.Table.{IsTrueOfOne}
 use Rattle.circ_map.specs.declared.mapping.CircMapped.{CircMapped}
 use Rattle.circ_map.specs.Mapping.{IsCoreWhereDeep, IsMappedBy, IsTreeMapped}
 use Rattle.circ_map.specs.declared.mapping.CircEnd.TheVariants.{Whole}

@@ -1,4 +1,4 @@
-use Rattle.replicate_merge.proofs.Merging.{stands-classes}
+use Rattle.replicate_merge.proofs.PlainClasses.{stands-classes}
 use Rattle.circ_map.proofs.mapping.map_of_all.Goals as goal
 
 pub merged_quotient-requires-clause-classes : goal.merged_quotient-requires-clause-classes

@@ -1,6 +1,6 @@
 use Rattle.std.proofs.Common.{subst}
 use Rattle.answer_defs.specs.Answer.{answered, Alone}
-use Rattle.answer_checks.specs.Ledgers.{JudgesLine}
+use Rattle.fab_judge.specs.Ledgers.{JudgesLine}
 use Rattle.fab_judge.proofs.Judged.{alone-judged}
 use Rattle.fab_judge.proofs.faults.fault_alone.Goals as goal
 

@@ -2,7 +2,7 @@ use Rattle.std.proofs.Common.{◌≤◌, ◌+◌, List, length, Some, IfSome, sy
 use Rattle.std.specs.Prelude.{option_copied}
 use Rattle.map_defs.specs.declared.rank.RankEntry.{RankEntry}
 use Rattle.answer_defs.specs.declared.why.Why.TheVariants.{Route}
-use Rattle.answer_checks.specs.Checks.{FindsFault}
+use Rattle.fab_judge.specs.Checks.{FindsFault}
 use Rattle.fab_judge.specs.Judging.{FindsFaultOn}
 use Rattle.fab_judge.proofs.Judged.{found-on, found-none}
 use Rattle.fab_judge.proofs.faults.fault_on.Goals as goal

@@ -3,8 +3,8 @@ use Rattle.std.proofs.Common.{refl}
 use Rattle.journal_defs.proofs.Grown.{one_cable_grown}
 use Rattle.journal_defs.specs.Fabrics.{one_cable}
 use Rattle.journal_defs.specs.Examples.{one_cable_journal}
-use Rattle.growth_laws.proofs.Shallow.{one_cable_fabric, one_cable_true}
-use Rattle.growth_laws.proofs.Truly.{true-where}
+use Rattle.map_laws.proofs.Shallow.{one_cable_fabric, one_cable_true}
+use Rattle.map_laws.proofs.Truly.{true-where}
 use Rattle.map_laws.specs.Examples.{one_cable_map}
 use Rattle.map_laws.proofs.OneCable.{one_cable_closed, one_cable_quotient}
 use Rattle.map_laws.proofs.Assembly.{closed_map_is_right}

@@ -2,7 +2,7 @@ use Rattle.std.proofs.Common.{◌≡◌, ℕ, ◌+ℤ◌, ap, sym, ◌∙◌, su
 use Rattle.std.proofs.lemmas.Int.{ints, to_z-of_z}
 use Rattle.std.proofs.lemmas.Option.{get_or_from_slice_get}
 use Rattle.port_align.specs.declared.frame.ClassFrame.{ClassFrame}
-use Rattle.class_joins.specs.Ways.{frame_at}
+use Rattle.replicate_merge.specs.Ways.{frame_at}
 use Rattle.map_quotient.specs.Numbering.{IsVertexOf}
 use Rattle.map_quotient.specs.Joining.{vertex_at}
 use Rattle.map_quotient.proofs.joining.port_of.Goals as goal

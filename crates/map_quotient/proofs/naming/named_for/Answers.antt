@@ -2,8 +2,8 @@ use Rattle.std.proofs.Common.{ap, ◌∙◌}
 use Rattle.std.proofs.lemmas.List.{take_all}
 use Rattle.journal_defs.specs.Tree.{host_of}
 use Rattle.map_defs.specs.NetMap.{NetMap}
-use Rattle.class_joins.specs.Nodes.{nodes_of}
-use Rattle.class_joins.specs.Ways.{node_at}
+use Rattle.replicate_merge.specs.Nodes.{nodes_of}
+use Rattle.replicate_merge.specs.Ways.{node_at}
 use Rattle.map_quotient.specs.Naming.{bare_map, vertices_of}
 use Rattle.map_quotient.proofs.Named.{named-next}
 use Rattle.map_quotient.proofs.Vertices.{next-fits}

@@ -1,7 +1,7 @@
 use Rattle.std.proofs.Common.{◌∙◌, List, sym, subst}
 use Rattle.net_defs.specs.Network.{Apart}
 use Rattle.journal_defs.specs.Tree.{Node}
-use Rattle.class_joins.proofs.Nodes.{nodes-apart}
+use Rattle.replicate_merge.proofs.Nodes.{nodes-apart}
 use Rattle.map_quotient.proofs.Whole.{few-nodes, few-in-table}
 use Rattle.map_quotient.proofs.of_journal.numbering_of.Goals as goal
 

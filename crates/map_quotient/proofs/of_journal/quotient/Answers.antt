@@ -1,4 +1,4 @@
-use Rattle.replicate_merge.proofs.Merging.{stands-classes}
+use Rattle.replicate_merge.proofs.PlainClasses.{stands-classes}
 use Rattle.map_quotient.proofs.of_journal.quotient.Goals as goal
 
 pub merged_quotient-requires-clause-classes : goal.merged_quotient-requires-clause-classes

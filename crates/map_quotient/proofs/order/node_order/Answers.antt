@@ -1,7 +1,7 @@
 use Rattle.std.proofs.Common.{◌+◌, rules, arith}
 use Rattle.std.proofs.lemmas.Fn.{always_returns_same}
-use Rattle.class_joins.specs.Nodes.{nodes_of}
-use Rattle.class_joins.proofs.Telling.{count-nodes}
+use Rattle.replicate_merge.specs.Nodes.{nodes_of}
+use Rattle.replicate_merge.proofs.Telling.{count-nodes}
 use Rattle.map_quotient.proofs.Sorting.{number_below, numbers_order, sorted-order}
 use Rattle.map_quotient.proofs.order.node_order.Goals as goal
 

@@ -1,6 +1,6 @@
 use Rattle.std.proofs.Common.{◌≡◌, ◌+◌, sym, subst}
 use Rattle.journal_defs.specs.declared.entry.Entry.{Entry}
-use Rattle.class_joins.specs.Table.{StandsFor}
+use Rattle.replicate_merge.specs.Table.{StandsFor}
 use Rattle.probe.specs.Keeping.{JournalState, with_entry}
 use Rattle.mapper.specs.declared.tree.Tree.{Tree}
 use Rattle.mapper.proofs.asking.keep.Goals as goal

@@ -2,7 +2,7 @@ use Rattle.std.proofs.Common.{◌≡◌, ◌≤◌, ◌++◌, ◌∷◌, [], Lis
 use Rattle.std.specs.Prelude.{ℤ}
 use Rattle.journal_defs.specs.Growth.{node_limit}
 use Rattle.net_defs.specs.Route.{answer}
-use Rattle.growth_laws.proofs.Asks.{push-length}
+use Rattle.map_laws.proofs.Asks.{push-length}
 use Rattle.mapper.specs.Turns.{turn_at}
 use Rattle.mapper.specs.Growths.{IsAsk, IsLostAsk, IsToldOf}
 use Rattle.mapper.proofs.Midway.{midway-start}

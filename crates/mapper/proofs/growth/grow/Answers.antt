@@ -1,7 +1,7 @@
 use Rattle.std.proofs.Common.{◌∙◌, ◌↔◌, [], IsTrue, sym, ap, subst, arith}
 use Rattle.journal_defs.specs.Growth.{IsGrown, IsEndedAtLimit}
 use Rattle.journal_defs.specs.Truth.{IsTrueJournal, IsTrueWhereFound}
-use Rattle.class_joins.specs.Table.{StandsFor}
+use Rattle.replicate_merge.specs.Table.{StandsFor}
 use Rattle.mapper.specs.Asks.{AreAsked}
 use Rattle.mapper.specs.declared.growth.Grown.{Grown}
 use Rattle.mapper.specs.Growths.{IsBareTree, StopsShort}

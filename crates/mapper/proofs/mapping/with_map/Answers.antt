@@ -1,9 +1,9 @@
 use Rattle.std.proofs.Common.{◌<◌, length, sym, subst}
 use Rattle.map_defs.specs.Quotient.{IsQuotient}
-use Rattle.class_joins.specs.Table.{IsTrueOfOne}
+use Rattle.replicate_merge.specs.Table.{IsTrueOfOne}
 use Rattle.probe.specs.Keeping.{JournalState}
 use Rattle.replicate_merge.specs.Merged.{AreClassesOf}
-use Rattle.replicate_merge.proofs.Merging.{stands-classes}
+use Rattle.replicate_merge.proofs.PlainClasses.{stands-classes}
 use Rattle.mapper.proofs.mapping.with_map.Goals as goal
 
 pub map_if-requires-clause-classes : goal.map_if-requires-clause-classes

@@ -1,4 +1,4 @@
-use Rattle.class_joins.specs.Nodes.{nodes_of}
+use Rattle.replicate_merge.specs.Nodes.{nodes_of}
 use Rattle.replicate_merge.specs.AtOnce.{HasOwnWays}
 use Rattle.replicate_merge.proofs.at_once.add_all_ways.Given as goal
 

@@ -1,8 +1,8 @@
 use Rattle.std.proofs.Common.{◌≡◌, ◌<◌, Some, true, false, length, nat_eq, ap, sym, ◌∙◌, subst, arith}
 use Rattle.std.specs.Prelude.{slice_get, slice_index_or}
 use Rattle.journal_defs.specs.Tree.{is_found}
-use Rattle.class_joins.specs.Steps.{AddsNode}
-use Rattle.class_joins.proofs.Numbers.{any-default}
+use Rattle.replicate_merge.specs.Steps.{AddsNode}
+use Rattle.replicate_merge.proofs.Numbers.{any-default}
 use Rattle.replicate_merge.proofs.Entries.{entry-in}
 use Rattle.replicate_merge.proofs.NodesAtOnce.{asked-inside, frames-few, names-few-there, nodes-next, nodes-same}
 use Rattle.replicate_merge.proofs.at_once.add_node_at.Goals as goal

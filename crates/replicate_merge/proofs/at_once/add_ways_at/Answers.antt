@@ -2,10 +2,10 @@ use Rattle.std.proofs.Common.{◌≡◌, ◌+◌, List, Some, false, ap, sym, �
 use Rattle.std.specs.Prelude.{slice_get}
 use Rattle.std.proofs.lemmas.Option.{slice_get_within}
 use Rattle.probe.specs.Keeping.{has_walk}
-use Rattle.class_joins.specs.Nodes.{nodes_of}
-use Rattle.class_joins.specs.Steps.{AddsWays, MayAddWays}
-use Rattle.class_joins.specs.declared.way.Way.{Way}
-use Rattle.class_joins.proofs.Telling.{count-nodes, walk-node}
+use Rattle.replicate_merge.specs.Nodes.{nodes_of}
+use Rattle.replicate_merge.specs.Steps.{AddsWays, MayAddWays}
+use Rattle.replicate_merge.specs.declared.way.Way.{Way}
+use Rattle.replicate_merge.proofs.Telling.{count-nodes, walk-node}
 use Rattle.replicate_merge.specs.Own.{AreOwnWays}
 use Rattle.replicate_merge.proofs.Entries.{entry-in}
 use Rattle.replicate_merge.proofs.Finding.{few-walks}

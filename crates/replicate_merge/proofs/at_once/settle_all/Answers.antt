@@ -1,6 +1,6 @@
 use Rattle.std.proofs.Common.{arith}
-use Rattle.class_joins.specs.Nodes.{nodes_of}
-use Rattle.class_joins.proofs.Telling.{count-nodes}
+use Rattle.replicate_merge.specs.Nodes.{nodes_of}
+use Rattle.replicate_merge.proofs.Telling.{count-nodes}
 use Rattle.replicate_merge.proofs.Finding.{few-walks}
 use Rattle.replicate_merge.proofs.WaysAtOnce.{all-settled}
 use Rattle.replicate_merge.proofs.at_once.settle_all.Goals as goal

@@ -4,10 +4,10 @@ use Rattle.std.proofs.lemmas.Int.{to_z-of_z}
 use Rattle.std.proofs.lemmas.List.Elements.{All-pop}
 use Rattle.net_defs.specs.Turn.{IsTurn}
 use Rattle.journal_defs.specs.declared.entry.Entry.{Entry}
-use Rattle.class_joins.specs.Asked.{CountsAsked}
-use Rattle.class_joins.specs.Nodes.{nodes_of}
-use Rattle.class_joins.proofs.Numbers.{any-default}
-use Rattle.class_joins.proofs.Waying.{take-more}
+use Rattle.replicate_merge.specs.Asked.{CountsAsked}
+use Rattle.replicate_merge.specs.Nodes.{nodes_of}
+use Rattle.replicate_merge.proofs.Numbers.{any-default}
+use Rattle.replicate_merge.proofs.Waying.{take-more}
 use Rattle.replicate_merge.specs.Between.{IsFrontOf}
 use Rattle.replicate_merge.specs.declared.fronts.Front.{Front}
 use Rattle.replicate_merge.proofs.Entries.{entry-in}

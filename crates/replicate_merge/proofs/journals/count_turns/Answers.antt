@@ -1,6 +1,6 @@
 use Rattle.std.proofs.Common.{◌≡◌, ◌+◌, length, arith}
-use Rattle.class_joins.specs.Nodes.{nodes_of}
-use Rattle.class_joins.proofs.Telling.{count-nodes}
+use Rattle.replicate_merge.specs.Nodes.{nodes_of}
+use Rattle.replicate_merge.proofs.Telling.{count-nodes}
 use Rattle.replicate_merge.proofs.Finding.{few-walks}
 use Rattle.replicate_merge.proofs.TurnsAtOnce.{counts-none}
 use Rattle.replicate_merge.proofs.journals.count_turns.Goals as goal

@@ -1,6 +1,6 @@
 use Rattle.std.proofs.Common.{take}
-use Rattle.class_joins.specs.Asked.{CountsAsked}
-use Rattle.class_joins.specs.Nodes.{nodes_of}
+use Rattle.replicate_merge.specs.Asked.{CountsAsked}
+use Rattle.replicate_merge.specs.Nodes.{nodes_of}
 use Rattle.replicate_merge.proofs.journals.count_turns.Given as goal
 
 abbrev pub invariant-loop-at : goal.invariant-loop-at

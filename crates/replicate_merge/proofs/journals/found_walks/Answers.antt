@@ -4,7 +4,7 @@ use Rattle.journal_defs.specs.declared.entry.Entry.{Entry}
 use Rattle.journal_defs.specs.Tree.{Node, IsJournal, is_found, nodes}
 use Rattle.journal_defs.specs.Tree.Node.{Reached}
 use Rattle.probe.specs.Keeping.{has_walk}
-use Rattle.class_joins.specs.Nodes.{nodes_of}
+use Rattle.replicate_merge.specs.Nodes.{nodes_of}
 use Rattle.replicate_merge.proofs.Entries.{entry-in, nodes-found, nodes-lost}
 use Rattle.replicate_merge.proofs.Nexts.{nodes-pushed, not-node}
 use Rattle.replicate_merge.proofs.Orphans.{walk-known}

@@ -1,6 +1,6 @@
 use Rattle.std.proofs.Common.{◌≡◌, take}
 use Rattle.journal_defs.specs.Tree.{nodes}
-use Rattle.class_joins.specs.Nodes.{nodes_of}
+use Rattle.replicate_merge.specs.Nodes.{nodes_of}
 use Rattle.replicate_merge.proofs.journals.found_walks.Given as goal
 
 abbrev pub invariant-loop-e : goal.invariant-loop-e

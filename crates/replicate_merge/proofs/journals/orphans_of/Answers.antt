@@ -1,6 +1,6 @@
 use Rattle.std.proofs.Common.{◌≡◌, List, length, take, ap, ◌∙◌, subst, arith}
 use Rattle.journal_defs.specs.declared.entry.Entry.{Entry}
-use Rattle.class_joins.proofs.Waying.{take-all}
+use Rattle.replicate_merge.proofs.Waying.{take-all}
 use Rattle.replicate_merge.specs.AtOnce.{AreOrphans}
 use Rattle.replicate_merge.proofs.OrphansAtOnce.{orphans-all}
 use Rattle.replicate_merge.proofs.journals.orphans_of.Goals as goal

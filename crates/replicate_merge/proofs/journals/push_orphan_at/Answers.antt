@@ -4,8 +4,8 @@ use Rattle.std.proofs.lemmas.Result.{on_ok_weaker}
 use Rattle.journal_defs.specs.declared.entry.Entry.{Entry}
 use Rattle.journal_defs.specs.Tree.{is_found}
 use Rattle.probe.specs.Keeping.{has_walk}
-use Rattle.class_joins.specs.Nodes.{nodes_of}
-use Rattle.class_joins.proofs.Waying.{take-more}
+use Rattle.replicate_merge.specs.Nodes.{nodes_of}
+use Rattle.replicate_merge.proofs.Waying.{take-more}
 use Rattle.replicate_merge.specs.AtOnce.{AreOrphans}
 use Rattle.replicate_merge.specs.Between.{IsFrontOf}
 use Rattle.replicate_merge.specs.declared.fronts.Front.{Front}

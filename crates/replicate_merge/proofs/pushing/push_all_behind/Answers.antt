@@ -1,7 +1,7 @@
 use Rattle.std.proofs.Common.{◌≡◌, ◌∙◌, subst, arith, rules, SFits, to_z, of_z, w8}
 use Rattle.std.proofs.lemmas.Int.{to_z-of_z}
 use Rattle.replicate_merge.specs.Behind.{AddsBehind}
-use Rattle.class_joins.specs.Nodes.{nodes_of}
+use Rattle.replicate_merge.specs.Nodes.{nodes_of}
 use Rattle.replicate_merge.specs.Onward.{AddsBelow}
 use Rattle.replicate_merge.proofs.Behind.{below-next, below-none}
 use Rattle.replicate_merge.proofs.pushing.push_all_behind.Goals as goal

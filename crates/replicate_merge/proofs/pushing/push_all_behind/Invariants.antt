@@ -1,5 +1,5 @@
 use Rattle.std.proofs.Common.{◌≡◌}
-use Rattle.class_joins.specs.Nodes.{nodes_of}
+use Rattle.replicate_merge.specs.Nodes.{nodes_of}
 use Rattle.replicate_merge.specs.Onward.{AddsBelow}
 use Rattle.replicate_merge.proofs.pushing.push_all_behind.Given as goal
 

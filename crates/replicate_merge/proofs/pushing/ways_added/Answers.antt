@@ -1,6 +1,6 @@
 use Rattle.std.proofs.Common.{◌≡◌, ◌+◌, false, true, length, sym, subst}
 use Rattle.journal_defs.specs.declared.entry.Entry.{Entry}
-use Rattle.class_joins.specs.Nodes.{nodes_of}
+use Rattle.replicate_merge.specs.Nodes.{nodes_of}
 use Rattle.replicate_merge.specs.Onward.{AreNewWays}
 use Rattle.replicate_merge.proofs.Behind.{ways-ahead, ways-plain}
 use Rattle.replicate_merge.proofs.pushing.ways_added.Goals as goal

@@ -1,4 +1,4 @@
-use Rattle.class_joins.specs.Steps.{HasNoNodes}
+use Rattle.replicate_merge.specs.Steps.{HasNoNodes}
 use Rattle.replicate_merge.proofs.Starts.{none-same, start-alone}
 use Rattle.replicate_merge.proofs.starting.lone_host.Goals as goal
 

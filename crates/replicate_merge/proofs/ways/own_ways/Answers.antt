@@ -1,6 +1,6 @@
 use Rattle.std.proofs.Common.{◌≡◌, ◌++◌, [], List, Some, ap, ◌∙◌}
 use Rattle.journal_defs.specs.declared.entry.Entry.{Entry}
-use Rattle.class_joins.specs.declared.way.Way.{Way}
+use Rattle.replicate_merge.specs.declared.way.Way.{Way}
 use Rattle.replicate_merge.specs.Cables.{host_ways}
 use Rattle.replicate_merge.proofs.Behind.{own-ways}
 use Rattle.replicate_merge.proofs.ways.own_ways.Goals as goal

@@ -3,8 +3,8 @@ use Rattle.cable_history.specs.History.{fabric_at}
 use Rattle.cable_history.proofs.First.{first_stands}
 use Rattle.world_defs.specs.World.{WorldState, fabric_of, new_world}
 use Rattle.fab_world.specs.Held.{IsMoment}
-use Rattle.act_defs.specs.Acts.{IsReached}
-use Rattle.act_defs.proofs.Reaching.{reached-new}
+use Rattle.world_defs.specs.Acts.{IsReached}
+use Rattle.world_defs.proofs.Reaching.{reached-new}
 use Rattle.fab_world.proofs.Moments.{new-moment}
 use Rattle.fab_world.proofs.world.World.new.Goals as goal
 

@@ -4,7 +4,7 @@ use Rattle.std.proofs.lemmas.Option.{get_or_from_slice_get}
 use Rattle.gm_defs.specs.declared.message.Message.{Message}
 use Rattle.gm_defs.specs.declared.frame.ConnectionKey.{ConnectionKey}
 use Rattle.gm_defs.specs.Body.{frame_bytes}
-use Rattle.host_lanes.specs.Lane.{HostLane, due_frame as due_on, head_of_frame}
+use Rattle.gm_conn.specs.Lane.{HostLane, due_frame as due_on, head_of_frame}
 use Rattle.duo_defs.specs.Duo.{EndState, with_lane}
 use Rattle.duo_defs.specs.Emitting.{due_frame, frame_emission}
 use Rattle.duo_defs.specs.Theorem.{IsWaiting}

@@ -1,7 +1,7 @@
 use Rattle.std.proofs.Common.{ap, ◌∙◌, sym, set, get_or, Some, None}
 use Rattle.link_defs.specs.Fault.{flip}
 use Rattle.link_model.specs.State.{state}
-use Rattle.channel_slots.proofs.Counting.{set-set}
+use Rattle.link_model.proofs.Counting.{set-set}
 use Rattle.link_model.proofs.Stepping.{flip-back}
 use Rattle.link_model.proofs.links.Links.flip.Goals as goal
 

@@ -1,7 +1,7 @@
 use Rattle.std.proofs.Common.{ap, ◌∙◌, sym, set, get_or, Some, None}
 use Rattle.link_defs.specs.Links.{with_packet}
 use Rattle.link_model.specs.State.{state}
-use Rattle.channel_slots.proofs.Counting.{set-back}
+use Rattle.link_model.proofs.Counting.{set-back}
 use Rattle.link_model.proofs.links.Links.hold.Goals as goal
 
 pub returns-in-Err-clause-err : goal.returns-in-Err-clause-err

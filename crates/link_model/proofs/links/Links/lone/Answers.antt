@@ -1,5 +1,5 @@
 use Rattle.std.proofs.Common.{◌≢◌, ap, subst}
-use Rattle.channel_slots.specs.Full.{full_count, IsLone}
+use Rattle.link_model.specs.FullSlots.{full_count, IsLone}
 use Rattle.link_model.proofs.links.Links.lone.Goals as goal
 
 pub returns-in-Some-clause-lone : goal.returns-in-Some-clause-lone

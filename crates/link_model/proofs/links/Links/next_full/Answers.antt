@@ -1,5 +1,5 @@
 use Rattle.std.proofs.Common.{sym, ap, ◌∙◌}
-use Rattle.channel_slots.specs.Full.{full_from}
+use Rattle.link_model.specs.FullSlots.{full_from}
 use Rattle.link_model.proofs.NextFull.{next_full-some, next_full-none}
 use Rattle.link_model.proofs.links.Links.next_full.Goals as goal
 

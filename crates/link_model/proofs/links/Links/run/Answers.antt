@@ -1,7 +1,7 @@
 use Rattle.std.proofs.Common.{◌≡◌, ℕ, List, ap, ◌∙◌, sym, subst, length, set, get_or, Option, Some, None, arith}
 use Rattle.std.proofs.Math.ListN.{length-set}
 use Rattle.link_defs.specs.Links.{Held, LinkState, packet_in}
-use Rattle.channel_slots.specs.Full.{IsLone}
+use Rattle.link_model.specs.FullSlots.{IsLone}
 use Rattle.link_model.specs.State.{state}
 use Rattle.link_model.specs.Hop.{IsSentAlong, IsRun}
 use Rattle.link_model.proofs.Runs.{RunsOut, runs-out, moved_to, emptied-none}

@@ -4,7 +4,7 @@ use Rattle.std.specs.Option.{option_copied}
 use Rattle.gm_defs.specs.Body.{is_prio}
 use Rattle.gm_defs.specs.Connection.{ack_on}
 use Rattle.world_defs.specs.Node.{prio_of, lane_route, packet_for, takes_from, owed_on, lane_at}
-use Rattle.host_lanes.specs.Lane.{HostLane, other_way}
+use Rattle.gm_conn.specs.Lane.{HostLane, other_way}
 use Rattle.nic_node.specs.Held.{HostNode, state_of}
 use Rattle.nic_node.proofs.Going.{owed-packet, lane-prio}
 use Rattle.nic_node.proofs.node.NicNode.answer_packet.Goals as goal

@@ -2,7 +2,7 @@ use Rattle.std.proofs.Common.{◌∙◌, sym, ap}
 use Rattle.std.specs.Prelude.{option_map}
 use Rattle.std.specs.Option.{option_copied}
 use Rattle.world_defs.specs.Node.{NodeState, due_frame, lane_at}
-use Rattle.host_lanes.specs.Lane.{HostLane, head_shown, head_of_frame, ticket_of, due_frame as due_of}
+use Rattle.gm_conn.specs.Lane.{HostLane, head_shown, head_of_frame, ticket_of, due_frame as due_of}
 use Rattle.nic_node.specs.Held.{HostNode, state_of}
 use Rattle.nic_node.proofs.Going.{due-packet}
 use Rattle.nic_node.proofs.node.NicNode.fragment_packet.Goals as goal

@@ -1,7 +1,7 @@
 use Rattle.std.proofs.Common.{◌≡◌, ◌∙◌, ap}
 use Rattle.world_defs.specs.Table.{table_route}
 use Rattle.world_defs.specs.Node.{peer_of, lane_route}
-use Rattle.host_lanes.specs.Lane.{HostLane}
+use Rattle.gm_conn.specs.Lane.{HostLane}
 use Rattle.nic_node.specs.Held.{HostNode}
 use Rattle.nic_node.proofs.node.NicNode.lane_route.Goals as goal
 

@@ -1,5 +1,5 @@
 use Rattle.std.proofs.Common.{◌<◌, sym, ap, subst}
-use Rattle.host_lanes.specs.Lanes.{HostLanes}
+use Rattle.gm_conn.specs.Lanes.{HostLanes}
 use Rattle.nic_node.proofs.Ticketed.{new-of}
 use Rattle.nic_node.proofs.node.NicNode.new.Goals as goal
 

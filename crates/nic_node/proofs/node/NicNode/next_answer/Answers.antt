@@ -1,7 +1,7 @@
 use Rattle.std.proofs.Common.{◌≡◌, ◌∙◌, true, length, sym, ap, subst}
 use Rattle.std.specs.Prelude.{is_some}
 use Rattle.world_defs.specs.Node.{NodeState, lane_route, owed_on}
-use Rattle.host_lanes.specs.Lanes.{IsNext, owes_on}
+use Rattle.gm_conn.specs.Lanes.{IsNext, owes_on}
 use Rattle.nic_node.specs.Held.{HostNode, state_of}
 use Rattle.nic_node.proofs.Choosing.{goes-there, goes-nowhere, next-within}
 use Rattle.nic_node.proofs.Going.{not-owed, owed-there}

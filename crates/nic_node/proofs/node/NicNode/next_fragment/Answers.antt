@@ -1,7 +1,7 @@
 use Rattle.std.proofs.Common.{◌≡◌, ◌∙◌, true, length, sym, ap, subst}
 use Rattle.std.specs.Prelude.{is_some}
 use Rattle.world_defs.specs.Node.{NodeState, lane_route, due_on}
-use Rattle.host_lanes.specs.Lanes.{IsNext, has_due}
+use Rattle.gm_conn.specs.Lanes.{IsNext, has_due}
 use Rattle.nic_node.specs.Held.{HostNode, state_of}
 use Rattle.nic_node.proofs.Choosing.{goes-there, goes-nowhere, next-within}
 use Rattle.nic_node.proofs.Going.{not-due, due-there}

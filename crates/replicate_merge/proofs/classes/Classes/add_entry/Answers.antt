@@ -3,7 +3,7 @@ use Rattle.std.proofs.lemmas.Result.{on_ok_weaker}
 use Rattle.journal_defs.specs.Tree.{is_found}
 use Rattle.probe.specs.Keeping.{has_walk}
 use Rattle.replicate_merge.specs.Between.{AddsEntry, IsFrontOf, with_orphan}
-use Rattle.class_joins.specs.Table.{ClassTable}
+use Rattle.replicate_merge.specs.Table.{ClassTable}
 use Rattle.replicate_merge.specs.declared.fronts.Front.{Front}
 use Rattle.replicate_merge.proofs.Appending.{new-orphan}
 use Rattle.replicate_merge.proofs.Pushed.{adds-behind, adds-first, adds-orphan, lost-answer}

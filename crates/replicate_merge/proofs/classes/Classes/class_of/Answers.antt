@@ -3,7 +3,7 @@ use Rattle.std.specs.Prelude.{slice_get}
 use Rattle.net_defs.specs.Turn.{IsTurn}
 use Rattle.port_align.specs.declared.frame.ClassFrame.{ClassFrame}
 use Rattle.replicate_merge.specs.Seen.{class_table, kept_of}
-use Rattle.class_joins.specs.Table.{ClassTable}
+use Rattle.replicate_merge.specs.Table.{ClassTable}
 use Rattle.replicate_merge.proofs.Reading.{ReadsNode, reads-node}
 use Rattle.replicate_merge.proofs.classes.Classes.class_of.Goals as goal
 

@@ -1,7 +1,7 @@
 use Rattle.std.proofs.Common.{◌<◌, length, refl, sym, subst}
 use Rattle.std.proofs.Math.ListN.{length-set}
 use Rattle.replicate_merge.specs.Seen.{class_table, kept_of}
-use Rattle.class_joins.specs.Table.{ClassTable}
+use Rattle.replicate_merge.specs.Table.{ClassTable}
 use Rattle.replicate_merge.proofs.Reading.{ReadsNode, marked-whole, reads-node}
 use Rattle.replicate_merge.proofs.classes.Classes.count_turn.Goals as goal
 

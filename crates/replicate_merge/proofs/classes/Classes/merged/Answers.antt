@@ -1,8 +1,8 @@
 use Rattle.std.proofs.Common.{◌≡◌, refl, ap, sym, ◌∙◌, subst}
-use Rattle.class_joins.specs.Table.{ClassTable, IsTable}
+use Rattle.replicate_merge.specs.Table.{ClassTable, IsTable}
 use Rattle.replicate_merge.specs.Merged.{merged_table, without_tables}
 use Rattle.replicate_merge.specs.Seen.{class_table, kept_of}
-use Rattle.replicate_merge.proofs.Merging.{all-seen, table-kept}
+use Rattle.replicate_merge.proofs.PlainClasses.{all-seen, table-kept}
 use Rattle.replicate_merge.proofs.classes.Classes.merged.Goals as goal
 
 pub into_seen-frames-requires : goal.into_seen-frames-requires

@@ -1,7 +1,7 @@
 use Rattle.std.proofs.Common.{◌≡◌, ◌+◌, false, Some, ap, sym, ◌∙◌}
 use Rattle.std.specs.Prelude.{slice_get}
 use Rattle.probe.specs.Keeping.{has_walk}
-use Rattle.class_joins.specs.Table.{ClassTable}
+use Rattle.replicate_merge.specs.Table.{ClassTable}
 use Rattle.replicate_merge.proofs.Reading.{node-there, node-missing}
 use Rattle.replicate_merge.proofs.classes.Classes.node_of.Goals as goal
 

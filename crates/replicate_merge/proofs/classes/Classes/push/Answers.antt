@@ -1,7 +1,7 @@
 use Rattle.std.proofs.Common.{◌≡◌, [], List, refl, ap, sym, subst, arith, rules, SFits, w8}
 use Rattle.std.specs.Prelude.{ℤ}
-use Rattle.class_joins.specs.Nodes.{nodes_of}
-use Rattle.class_joins.specs.Table.{ClassTable}
+use Rattle.replicate_merge.specs.Nodes.{nodes_of}
+use Rattle.replicate_merge.specs.Table.{ClassTable}
 use Rattle.net_defs.specs.Turn.{IsTurn}
 use Rattle.std.specs.Prelude.{All}
 use Rattle.journal_defs.specs.Tree.{Node}
@@ -10,7 +10,7 @@ use Rattle.replicate_merge.specs.declared.fronts.Front.{Front}
 use Rattle.std.proofs.lemmas.Int.{to_z-of_z}
 use Rattle.replicate_merge.specs.Next.{StandsForNext}
 use Rattle.replicate_merge.proofs.Pushed.{pushed-ahead, pushed-first, pushed-turned, turn-few, turn-there}
-use Rattle.class_joins.proofs.Telling.{count-nodes}
+use Rattle.replicate_merge.proofs.Telling.{count-nodes}
 use Rattle.replicate_merge.proofs.classes.Classes.push.Goals as goal
 
 pub front_of-front-requires : goal.front_of-front-requires

@@ -1,11 +1,11 @@
 use Rattle.std.proofs.Common.{◌≡◌, ◌++◌, ◌∷◌, [], ℕ, List, length, nat_eq, refl, ap, sym, ◌∙◌, subst, arith, length-append}
-use Rattle.class_joins.specs.Nodes.{nodes_of}
+use Rattle.replicate_merge.specs.Nodes.{nodes_of}
 use Rattle.probe.specs.Keeping.{has_walk}
-use Rattle.class_joins.specs.declared.way.Way.{Way}
-use Rattle.class_joins.specs.Growing.{Grows, MayGrow}
+use Rattle.replicate_merge.specs.declared.way.Way.{Way}
+use Rattle.replicate_merge.specs.Growing.{Grows, MayGrow}
 use Rattle.replicate_merge.proofs.Appending.{few-names, new-walk, node-adds, node-may, node-shape, node-table, once-in}
 use Rattle.replicate_merge.proofs.Reading.{on-err, room-view, room-whole}
-use Rattle.class_joins.proofs.Telling.{count-nodes}
+use Rattle.replicate_merge.proofs.Telling.{count-nodes}
 use Rattle.replicate_merge.proofs.classes.Classes.push_node.Goals as goal
 
 pub ways_added-requires-clause-few : goal.ways_added-requires-clause-few

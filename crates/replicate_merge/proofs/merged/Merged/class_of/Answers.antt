@@ -1,8 +1,8 @@
 use Rattle.std.proofs.Common.{◌<◌, length, ap, sym, ◌∙◌, subst, arith}
 use Rattle.std.specs.Prelude.{slice_get}
-use Rattle.class_joins.specs.Table.{ClassTable}
+use Rattle.replicate_merge.specs.Table.{ClassTable}
 use Rattle.replicate_merge.specs.Merged.{merged_table}
-use Rattle.replicate_merge.proofs.Merging.{frame-there, frames-below}
+use Rattle.replicate_merge.proofs.PlainClasses.{frame-there, frames-below}
 use Rattle.replicate_merge.proofs.merged.Merged.class_of.Goals as goal
 
 pub index-requires : goal.index-requires

@@ -1,3 +1,0 @@
-pub mod Cables
-pub mod Counting
-pub mod Fullness

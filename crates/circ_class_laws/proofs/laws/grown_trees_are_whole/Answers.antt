@@ -1,5 +1,0 @@
-use Rattle.circ_class_laws.proofs.Growing.{grown_tree_is_whole}
-use Rattle.circ_class_laws.proofs.laws.grown_trees_are_whole.Goals as goal
-
-pub returns : goal.returns
-returns c = grown_tree_is_whole

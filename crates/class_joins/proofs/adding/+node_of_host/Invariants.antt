@@ -1,5 +1,0 @@
-use Rattle.std.proofs.Common.{length}
-use Rattle.class_joins.proofs.adding.+node_of_host.Given as goal
-
-abbrev pub decreases-node_of_host : goal.decreases-node_of_host
-decreases-node_of_host l = length l.hosts.now

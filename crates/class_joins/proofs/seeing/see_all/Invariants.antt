@@ -1,6 +1,0 @@
-use Rattle.std.proofs.Common.{◌≡◌}
-use Rattle.class_joins.proofs.SeenFirst.{seen_first}
-use Rattle.class_joins.proofs.seeing.see_all.Given as goal
-
-abbrev pub invariant-loop-node : goal.invariant-loop-node
-invariant-loop-node l = l.frames.items ≡ seen_first l.heads l.node l.initial.frames.items

@@ -1,8 +1,0 @@
--- The `==` of spots, by a name for clauses on maps.
-use Rattle.std.specs.Prelude.{Bool}
-use Rattle.class_joins.specs.declared.way.Spot.{Spot}
-use Rattle.class_joins.specs.contracts.way.SpotPartialEq.TheImpl as spot_eq
-
--- two spots are equal
-abbrev pub same_spot : Spot → Spot → Bool
-same_spot = (spot_eq.ghosts).eq

@@ -1,6 +1,0 @@
-use Rattle.std.proofs.Common.{[], subst}
-use Rattle.class_joins.specs.Table.{StandsFor}
-use Rattle.class_tables.proofs.comparing.go_through.Goals as goal
-
-pub go_along-requires-clause-none_yet : goal.go_along-requires-clause-none_yet
-go_along-requires-clause-none_yet c = subst (λ h. StandsFor h [] c.in_ok-classes.classes) c.host.ensures c.in_ok-classes.ensures

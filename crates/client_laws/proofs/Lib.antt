@@ -1,0 +1,9 @@
+pub mod Notes
+pub mod Returned
+pub mod Working
+pub mod Moves
+pub mod Polled
+pub mod Others
+pub mod Accepted
+pub mod Fronts
+pub mod SeenWorking

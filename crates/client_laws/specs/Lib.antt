@@ -1,0 +1,5 @@
+pub mod Noted
+pub mod Examples
+pub mod Handed
+pub mod Seen
+pub mod SeenExamples

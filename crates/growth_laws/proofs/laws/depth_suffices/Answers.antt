@@ -1,6 +1,0 @@
--- the journal is full to its depth, and so it is closed
-use Rattle.growth_laws.proofs.Depth.{depth_suffices}
-use Rattle.growth_laws.proofs.laws.depth_suffices.Goals as goal
-
-pub returns : goal.returns
-returns c = depth_suffices

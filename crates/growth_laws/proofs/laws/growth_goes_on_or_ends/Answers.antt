@@ -1,6 +1,0 @@
--- the search for the next ask
-use Rattle.growth_laws.proofs.Next.{growth_goes_on_or_ends}
-use Rattle.growth_laws.proofs.laws.growth_goes_on_or_ends.Goals as goal
-
-pub returns : goal.returns
-returns c = growth_goes_on_or_ends

@@ -1,3 +1,0 @@
-pub mod Distances
-pub mod Examples
-pub mod Laws

@@ -1,5 +1,0 @@
-pub mod Noted
-pub mod OneLane
-pub mod Places
-pub mod Unused
-pub mod Forgotten

@@ -1,5 +1,0 @@
-use Rattle.host_lanes.proofs.Places.{counted-is}
-use Rattle.host_lanes.proofs.lanes.Lanes.hosts.Goals as goal
-
-pub returns-clause-lanes : goal.returns-clause-lanes
-returns-clause-lanes c = counted-is c.args.self.now c.self.inside.host c.self.inside.hosts c.self.inside.lanes.items c.self.view_is c.self.invariant.lanes

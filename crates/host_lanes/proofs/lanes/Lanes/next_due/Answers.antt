@@ -1,9 +1,0 @@
-use Rattle.std.proofs.Common.{refl}
-use Rattle.host_lanes.specs.Sets.{is_due}
-use Rattle.host_lanes.proofs.Noted.{next-of}
-use Rattle.host_lanes.proofs.lanes.Lanes.next_due.Goals as goal
-
-pub returns : goal.returns
-returns c =
-    next-of is_due c.args.self.now c.self.inside.host c.self.inside.hosts c.self.inside.lanes.items c.self.inside.sets.due c.args.from c.next_due.result refl
-    c.self.view_is c.self.invariant.lanes c.self.invariant.due c.next_due.ensures.next c.next_due.ensures.none

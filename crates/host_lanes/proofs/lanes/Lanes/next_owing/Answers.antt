@@ -1,9 +1,0 @@
-use Rattle.std.proofs.Common.{refl}
-use Rattle.host_lanes.specs.Sets.{is_owing}
-use Rattle.host_lanes.proofs.Noted.{next-of}
-use Rattle.host_lanes.proofs.lanes.Lanes.next_owing.Goals as goal
-
-pub returns : goal.returns
-returns c =
-    next-of is_owing c.args.self.now c.self.inside.host c.self.inside.hosts c.self.inside.lanes.items c.self.inside.sets.owing c.args.from c.next_owing.result refl
-    c.self.view_is c.self.invariant.lanes c.self.invariant.owing c.next_owing.ensures.next c.next_owing.ensures.none

@@ -1,4 +1,0 @@
-pub mod First
-pub mod Lane
-pub mod Lanes
-pub mod Sets

@@ -1,5 +1,0 @@
-use Rattle.injection_bounds.proofs.Events.{act-costs}
-use Rattle.injection_bounds.proofs.laws.act_costs.Goals as goal
-
-pub returns : goal.returns
-returns c = act-costs

@@ -1,5 +1,0 @@
-use Rattle.injection_bounds.proofs.Asking.{ask-costs}
-use Rattle.injection_bounds.proofs.laws.ask_costs.Goals as goal
-
-pub returns : goal.returns
-returns c = ask-costs

@@ -1,5 +1,0 @@
-use Rattle.injection_bounds.proofs.Acting.{acts-pay}
-use Rattle.injection_bounds.proofs.laws.injections_of_acts.Goals as goal
-
-pub returns : goal.returns
-returns c = acts-pay

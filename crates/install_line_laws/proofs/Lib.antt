@@ -1,2 +1,0 @@
-pub mod Shortest
-pub mod Lines

@@ -1,5 +1,0 @@
-use Rattle.return_laws.proofs.Returned.{events-of_tokens, polls-of_tokens}
-use Rattle.return_laws.proofs.token.returned_tokens.Goals as goal
-
-pub returns : goal.returns
-returns c = record { events = events-of_tokens; polls = polls-of_tokens }

@@ -1,5 +1,0 @@
-use Rattle.return_laws.proofs.Working.{token-noted}
-use Rattle.return_laws.proofs.worked.one_token.Goals as goal
-
-pub returns : goal.returns
-returns c = token-noted

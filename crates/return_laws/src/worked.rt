@@ -1,8 +1,0 @@
-//! A worked example: `specs/Examples.antt` has the statement.
-
-ghost use Rattle.return_laws.specs.Examples.{TokenIsNoted};
-
-/// A send notes its token, and a poll answers it: the law is not of ports alone to which no token comes back.
-pub fn one_token()
-    ensures { TokenIsNoted }
-{}

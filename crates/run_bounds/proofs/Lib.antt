@@ -1,4 +1,0 @@
-pub mod Asks
-pub mod Parts
-pub mod Starting
-pub mod Running

@@ -1,5 +1,0 @@
-use Rattle.run_bounds.proofs.Running.{runs-inject-few}
-use Rattle.run_bounds.proofs.laws.runs_inject_few.Goals as goal
-
-pub returns : goal.returns
-returns c = runs-inject-few

@@ -1,4 +1,0 @@
-mod Counts
-mod Digits
-mod Keywords
-pub mod Turns

@@ -1,4 +1,0 @@
-pub mod Commands
-pub mod Leading
-pub mod Lists
-pub mod Values
