@@ -13,10 +13,13 @@ pub(crate) fn append_hex(text: &mut Vec<u8>, bytes: &[u8]) -> Result<(), AllocEr
     let Some(count) = bytes.len().checked_mul(2) else {
         return Err(AllocError);
     };
-    let mut room = vec![in *text.allocator(); 0u8; count]?;
-    let digits = room.as_mut_slice();
-    write_digits(bytes, digits);
-    text.extend_from_slice(digits)
+    let from = text.len();
+    let Some(end) = from.checked_add(count) else {
+        return Err(AllocError);
+    };
+    text.resize(end, 0)?;
+    write_digits(bytes, &mut text[from..]);
+    Ok(())
 }
 
 // Writes two digits for each byte. None is looked up, so that many are written at once.
