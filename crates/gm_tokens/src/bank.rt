@@ -1,10 +1,11 @@
 //! The bank of one opening of a port.
 
-ghost use Rattle.std.specs.Prelude.{◌≡◌, ◌≤◌, IfOk, vec_len, vec_capacity};
+ghost use Rattle.std.specs.Prelude.{◌≡◌, ◌≤◌, ◌++◌, IfOk, vec_len, vec_capacity};
 ghost use Rattle.gm_tokens.specs.Minted.{tokens, AreAll};
 
 use crate::token::{RecvToken, SendToken};
 use std::alloc::{AllocError, Global};
+use std::collections::VecDeque;
 
 /// Memory ran out.
 pub type NoMemory = AllocError;
@@ -68,14 +69,38 @@ impl Bank {
         requires sends { AreAll self.host self.port self.sends sends.items }
         requires recvs { AreAll self.host self.port self.recvs recvs.items }
     {
+        self.spend();
+        spend_sends(VecDeque::from_vec(sends));
+        spend_recvs(VecDeque::from_vec(recvs));
+    }
+
+    /// Spends all tokens that were minted with this bank, those in a holder's hands and others, and the bank: each
+    /// where it stands. Takes no memory.
+    pub fn retire_held(
+        self,
+        held_sends: VecDeque<SendToken>,
+        sends: Vec<SendToken>,
+        held_recvs: VecDeque<RecvToken>,
+        recvs: Vec<RecvToken>,
+    )
+        requires sends { AreAll self.host self.port self.sends (held_sends.items ++ sends.items) }
+        requires recvs { AreAll self.host self.port self.recvs (held_recvs.items ++ recvs.items) }
+    {
+        self.spend();
+        spend_sends(held_sends);
+        spend_sends(VecDeque::from_vec(sends));
+        spend_recvs(held_recvs);
+        spend_recvs(VecDeque::from_vec(recvs));
+    }
+
+    // The bank alone.
+    fn spend(self) {
         let Bank {
             host: _,
             port: _,
             sends: _,
             recvs: _,
         } = self;
-        spend_sends(sends);
-        spend_recvs(recvs);
     }
 }
 
@@ -103,8 +128,8 @@ fn mint_recvs(mut room: Vec<RecvToken>, host: u16, port: u8, count: u16) -> Vec<
     room
 }
 
-fn spend_sends(mut tokens: Vec<SendToken>) {
-    while let Some(token) = tokens.pop() {
+fn spend_sends(mut tokens: VecDeque<SendToken>) {
+    while let Some(token) = tokens.pop_front() {
         let SendToken {
             host: _,
             port: _,
@@ -114,8 +139,8 @@ fn spend_sends(mut tokens: Vec<SendToken>) {
     tokens.destroy_empty();
 }
 
-fn spend_recvs(mut tokens: Vec<RecvToken>) {
-    while let Some(token) = tokens.pop() {
+fn spend_recvs(mut tokens: VecDeque<RecvToken>) {
+    while let Some(token) = tokens.pop_front() {
         let RecvToken {
             host: _,
             port: _,

@@ -54,10 +54,10 @@ opened-kept bank host port sends recvs ss rs send_room recv_room b s r sroom rro
 }
 
 -- all tokens, those held and others
-pub all-joined : (host port bank_count count : ℕ) (held others joined : List Token) → bank_count ≡ count → AreOwn host port held → joined ≡ held ++ others
-    → AreAll host port count (tokens_of host port (numbers_of held) ++ others) → AreAll host port bank_count joined
-all-joined host port bank_count count held others joined n own is all =
-    subst (λ k. AreAll host port k joined) (sym n) (subst (AreAll host port count) (ap (λ l. l ++ others) (tokens-numbers host port held own) ∙ sym is) all)
+pub all-held_and : (host port bank_count count : ℕ) (held others : List Token) → bank_count ≡ count → AreOwn host port held
+    → AreAll host port count (tokens_of host port (numbers_of held) ++ others) → AreAll host port bank_count (held ++ others)
+all-held_and host port bank_count count held others n own all =
+    subst (λ k. AreAll host port k (held ++ others)) (sym n) (subst (AreAll host port count) (ap (λ l. l ++ others) (tokens-numbers host port held own)) all)
 
 -- a client that holds each number below the count holds all tokens
 pub all-held : (host port count : ℕ) (ns : List ℕ) → AllByRecursion (λ n. n < count) ns → Apart ns → length ns ≡ count → AreAll host port count (tokens_of host port ns ++ [])

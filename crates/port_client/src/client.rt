@@ -5,7 +5,6 @@ ghost use Rattle.gm_tokens.specs.Token.{token_at};
 ghost use Rattle.gm_tokens.specs.Minted.{AreAll};
 ghost use Rattle.port_client.specs.Held.{opened_client, with_sends, with_recvs, tokens_of};
 
-use crate::held::{joined_recvs, joined_sends};
 use gm_tokens::{Bank, Minted, NoMemory, RecvToken, SendToken};
 use std::alloc::Global;
 use std::collections::VecDeque;
@@ -152,9 +151,6 @@ impl Client {
             sends: held_sends,
             recvs: held_recvs,
         } = self;
-        bank.retire(
-            joined_sends(held_sends, sends),
-            joined_recvs(held_recvs, recvs),
-        );
+        bank.retire_held(held_sends, sends, held_recvs, recvs);
     }
 }

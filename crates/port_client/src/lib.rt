@@ -17,7 +17,6 @@
 mod bytes;
 mod client;
 mod client_port;
-mod held;
 mod returning;
 
 pub use bytes::{client_buffer, client_bytes, zero_buffer, zero_buffer_in};

@@ -1,5 +1,5 @@
-use Rattle.std.proofs.Common.{vec_len}
+use Rattle.std.specs.VecDeque.{deque_len}
 use Rattle.gm_tokens.proofs.bank.spend_recvs.Given as goal
 
 abbrev pub decreases-loop-token : goal.decreases-loop-token
-decreases-loop-token l = vec_len l.tokens
+decreases-loop-token l = deque_len l.tokens
