@@ -1,5 +1,5 @@
 -- A keyword with a space after it is the first word.
-use Rattle.std.proofs.Common.{◌≡◌, ℕ, List, [], ◌∷◌, ◌++◌, Bool, true, false, ◌&&◌, not, bytes_eq, refl, ap, sym, ◌∙◌, if◌then◌else◌}
+use Rattle.std.proofs.Common.{◌≡◌, ℕ, List, [], ◌∷◌, ◌++◌, Bool, true, false, ◌&&◌, not, bytes_eq, refl, ap, ◌∙◌, if◌then◌else◌}
 use Rattle.std.specs.List.{list_all, onto_first}
 use Rattle.std.proofs.lemmas.Slice.Eq.{bytes_eq-Decides}
 use Rattle.fab_text.specs.Line.{is_blank, words_of}
@@ -21,8 +21,8 @@ plain_leads b (c ∷ w) left h = by (is_blank b) (is_blank c) (list_all (λ d. n
     by false true v f e = cc
     by false false v f e = ap (onto_first b) (f e)
 
--- a keyword with a space after it
-leads : (keyword left : List ℕ) → is_plain keyword ≡ true → words_of (keyword ++ 32 ∷ left) ≡ keyword ∷ words_of left
+-- a word with a space after it
+pub leads : (keyword left : List ℕ) → is_plain keyword ≡ true → words_of (keyword ++ 32 ∷ left) ≡ keyword ∷ words_of left
 leads [] left h = cc
 leads (b ∷ w) left h = plain_leads b w left h
 

@@ -4,4 +4,6 @@ pub mod Ranged
 mod Counts
 mod Digits
 mod Keywords
+mod Numbers
+mod PlainWords
 pub mod Turns

@@ -5,3 +5,4 @@ pub mod Commands
 pub mod Leading
 pub mod LineLists
 pub mod Values
+pub mod Plain

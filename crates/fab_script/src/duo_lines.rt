@@ -10,6 +10,7 @@ ghost use Rattle.fab_script.specs.Commands.{duo_event};
 
 use crate::counted::{one, three, two};
 use crate::leading::after_keyword;
+use crate::plain::{one_within, three_within, two_within};
 use crate::port_lines::{MAX_LEN, MAX_SIZE};
 use crate::values::{byte, number};
 use fab_text::{FaultKind, Words, is_keyword};
@@ -95,6 +96,11 @@ fn send(fabric: &Fabric, args: Words) -> Result<Command, FaultKind>
     ensures { result ≡ and_then (said_by (of_end ∷ OfNumber 0 1000000 ∷ OfNumber 0 255 ∷ []) (words_of args.entry))
         (duo_send_meant fabric.now) }
 {
+    let plain = three_within(args.rest(), u32::from(MAX_END), MAX_LEN, u32::from(u8::MAX));
+    if let Some((x, len, seed)) = plain {
+        let (x, seed) = (x as u8, seed as u8);
+        return Ok(Command::Duo(DuoEvent::Send { x, len, seed }));
+    }
     let Some((x, len, seed)) = three(args) else {
         return Err(FaultKind::BadWord);
     };
@@ -110,6 +116,10 @@ fn provide(fabric: &Fabric, args: Words) -> Result<Command, FaultKind>
     ensures { result ≡ and_then (said_by (of_end ∷ OfNumber 0 31 ∷ []) (words_of args.entry))
         (duo_provide_meant fabric.now) }
 {
+    if let Some((x, size)) = two_within(args.rest(), u32::from(MAX_END), u32::from(MAX_SIZE)) {
+        let (x, size) = (x as u8, size as u8);
+        return Ok(Command::Duo(DuoEvent::Provide { x, size }));
+    }
     let Some((x, size)) = two(args) else {
         return Err(FaultKind::BadWord);
     };
@@ -142,6 +152,9 @@ fn deliver(fabric: &Fabric, args: Words) -> Result<Command, FaultKind>
     ensures { result ≡ and_then (said_by (OfNumber 0 4294967295 ∷ []) (words_of args.entry))
         (duo_meant Deliver fabric.now) }
 {
+    if let Some(place) = one_within(args.rest(), 0, u32::MAX) {
+        return Ok(Command::Duo(DuoEvent::Deliver(u64::from(place))));
+    }
     let Some(place) = one(args) else {
         return Err(FaultKind::BadWord);
     };

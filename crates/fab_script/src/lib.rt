@@ -21,7 +21,8 @@
 //! | `port_lines` | `open`, `close`, `poll`, `tokens`, `provide`, `send` |
 //! | `cable_lines` | `pull`, `plug`, `revoke`, `broken` |
 //! | `plan_lines`, `step_lines`, `duo_lines` | `plan`, `step` and `duo`, by their second word |
-//! | `leading` | a keyword with a space after it |
+//! | `leading` | a keyword, or a name, with a space after it |
+//! | `plain` | numbers with one space between, in one pass |
 //! | `counted`, `values` | exactly so many words; what one word says |
 #![tactic(auto)]
 
@@ -31,6 +32,7 @@ mod counted;
 mod duo_lines;
 mod leading;
 mod map_lines;
+mod plain;
 mod plan_lines;
 mod port_lines;
 mod script;

@@ -9,6 +9,7 @@ ghost use Rattle.run_defs.specs.Script.{plan_flip_meant, plan_pull_meant, plan_k
 
 use crate::counted::{one, three};
 use crate::leading::after_keyword;
+use crate::plain::one_within;
 use crate::step_lines::MAX_PORT;
 use crate::values::{byte, end, name, number};
 use fab_text::{FaultKind, Words, is_keyword};
@@ -70,6 +71,10 @@ fn plan_by(fabric: &Fabric, second: &[u8], args: Words) -> Result<Command, Fault
 fn plan_for(fabric: &Fabric, kind: PlanKind, args: Words) -> Result<Command, FaultKind>
     ensures { result ≡ and_then (said_by (of_ahead ∷ []) (words_of args.entry)) (plan_meant kind fabric.now) }
 {
+    if let Some(ahead) = one_within(args.rest(), 1, MAX_AHEAD) {
+        let ahead = u64::from(ahead);
+        return Ok(Command::Plan { ahead, kind });
+    }
     let Some(ahead) = one(args) else {
         return Err(FaultKind::BadWord);
     };

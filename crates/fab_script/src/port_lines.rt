@@ -8,6 +8,7 @@ ghost use Rattle.run_defs.specs.Script.{at_port_meant, provide_meant, send_meant
 ghost use Rattle.fab_script.specs.Commands.{port_command};
 
 use crate::counted::{four, seven, two};
+use crate::plain::{name_and_one, name_and_three};
 use crate::values::{byte, host, name, number};
 use fab_text::{FaultKind, Words};
 use port_graph::Fabric;
@@ -63,17 +64,28 @@ pub(crate) fn at_port(fabric: &Fabric, call: PortCall, args: Words) -> Result<Co
     ensures { result ≡ and_then (said_by (OfName ∷ of_port ∷ []) (words_of args.entry))
         (at_port_meant (port_command call) fabric.now) }
 {
+    if let Some((h, port)) = name_and_one(&args, u32::from(MAX_PORT)) {
+        return Ok(called(call, host(fabric, h)?, port as u8));
+    }
     let Some((h, port)) = two(args) else {
         return Err(FaultKind::BadWord);
     };
     name(h)?;
     let port = byte(port, 0, MAX_PORT)?;
     let host = host(fabric, h)?;
-    Ok(match call {
+    Ok(called(call, host, port))
+}
+
+// The command that asks this of a host's port.
+#[inline(always)]
+fn called(call: PortCall, host: u16, port: u8) -> Command
+    ensures { result ≡ port_command call host port }
+{
+    match call {
         PortCall::Close => Command::Close { host, port },
         PortCall::Poll => Command::Poll { host, port },
         PortCall::Tokens => Command::Tokens { host, port },
-    })
+    }
 }
 
 /// `provide H PORT SIZE PRIO`
@@ -81,6 +93,22 @@ pub(crate) fn provide(fabric: &Fabric, args: Words) -> Result<Command, FaultKind
     ensures { result ≡ and_then (said_by (OfName ∷ of_port ∷ OfNumber 0 31 ∷ of_prio ∷ []) (words_of args.entry))
         (provide_meant fabric.now) }
 {
+    let plain = name_and_three(
+        &args,
+        u32::from(MAX_PORT),
+        u32::from(MAX_SIZE),
+        u32::from(MAX_PRIO),
+    );
+    if let Some((h, port, size, prio)) = plain {
+        let host = host(fabric, h)?;
+        let (port, size, prio) = (port as u8, size as u8, prio as u8);
+        return Ok(Command::Provide {
+            host,
+            port,
+            size,
+            prio,
+        });
+    }
     let Some((h, port, size, prio)) = four(args) else {
         return Err(FaultKind::BadWord);
     };

@@ -1,0 +1,11 @@
+use Rattle.std.proofs.Common.{◌≡◌, [], ◌∷◌, map, Ok, sym, ◌∙◌, arith}
+use Rattle.fab_text.specs.Line.{words_of}
+use Rattle.fab_text.specs.Word.{u32_of}
+use Rattle.run_defs.specs.Script.{OfNumber}
+use Rattle.fab_script.proofs.PlainWords.{plain-said}
+use Rattle.fab_script.proofs.plain.one_within.Goals as goal
+
+pub returns-clause-said : goal.returns-clause-said
+returns-clause-said c =
+    let said : map u32_of (words_of c.args.bytes.now) ≡ Ok c.in_ok-number.number ∷ [] = c.in_ok-one_number.ensures ∙ (λ i. Ok (sym c.in_ok-number.ensures.same i) ∷ []) in
+    plain-said (OfNumber c.args.least c.args.most ∷ []) (words_of c.args.bytes.now) (c.in_ok-number.number ∷ []) said ((omega arith, omega arith), tt)
