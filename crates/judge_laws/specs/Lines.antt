@@ -40,20 +40,23 @@ use Rattle.report_lines.specs.declared.line.MapSaid.{MapSaid}
 use Rattle.report_lines.specs.declared.line.MapSaid.TheVariants.{Complete as SaidComplete, Doubtful as SaidDoubtful}
 use Rattle.report_lines.specs.declared.line.MapSaid.TheVariants.{Shallow, Overgrown}
 use Rattle.report_lines.specs.declared.line.ReportLine.{ReportLine}
-use Rattle.report_lines.specs.declared.line.ReportLine.TheVariants.{Walk as WalkSaid, Map as MapRead, MapBusy as BusySaid}
+use Rattle.report_lines.specs.declared.line.ReportLine.TheVariants.{Walk as WalkSaid, Map as MapRead}
+use Rattle.report_lines.specs.declared.line.ReportLine.TheVariants.{MapBusy as BusySaid}
 use Rattle.report_lines.specs.declared.line.ReportLine.TheVariants.{Circuit as CircuitSaid, CircuitNodes as NodesSaid}
 use Rattle.report_lines.specs.declared.line.ReportLine.TheVariants.{Routes as RoutesSaid, NoMap as NoMapSaid}
 use Rattle.report_lines.specs.declared.line.ReportLine.TheVariants.{Route as RouteSaid, Rank as RankSaid}
 use Rattle.report_lines.specs.declared.line.ReportLine.TheVariants.{EndRoutes as EndRoutesSaid}
 use Rattle.report_lines.specs.declared.line.ReportLine.TheVariants.{Installed as InstalledSaid, Table as TableSaid}
-use Rattle.report_lines.specs.declared.line.ReportLine.TheVariants.{InstallRefused as InstallRefusedSaid, Opened, Closed}
+use Rattle.report_lines.specs.declared.line.ReportLine.TheVariants.{InstallRefused as InstallRefusedSaid}
+use Rattle.report_lines.specs.declared.line.ReportLine.TheVariants.{Opened, Closed}
 use Rattle.report_lines.specs.declared.line.ReportLine.TheVariants.{Provided, Accepted, Returned, Received, NothingCame}
 use Rattle.report_lines.specs.declared.line.ReportLine.TheVariants.{CallRefused, Tokens as TokensSaid}
 use Rattle.report_lines.specs.declared.line.ReportLine.TheVariants.{PlanAt as PlanSaid, Step as StepSaid}
 use Rattle.report_lines.specs.declared.line.ReportLine.TheVariants.{Settle as SettleSaid, Finish as FinishSaid}
 use Rattle.report_lines.specs.declared.line.ReportLine.TheVariants.{Pull as PullSaid, Plug as PlugSaid}
 use Rattle.report_lines.specs.declared.line.ReportLine.TheVariants.{Revoked as RevokedSaid, Broken as BrokenSaid}
-use Rattle.report_lines.specs.declared.line.ReportLine.TheVariants.{EndBroken as EndBrokenSaid, NoBroken as NoBrokenSaid}
+use Rattle.report_lines.specs.declared.line.ReportLine.TheVariants.{EndBroken as EndBrokenSaid}
+use Rattle.report_lines.specs.declared.line.ReportLine.TheVariants.{NoBroken as NoBrokenSaid}
 
 -- a number of 64 bits
 abbrev pub IsCounted : ℕ → Type 0

@@ -2,7 +2,8 @@
 
 ghost use Rattle.std.specs.Prelude.{◌≡◌};
 ghost use Rattle.fab_text.specs.Line.{words_of};
-ghost use Rattle.report_lines.specs.Forms.{done_where, pull_answer, is_plug_cause, is_plug_refusal, plug_answer, pull_at};
+ghost use Rattle.report_lines.specs.Forms.{done_where, pull_answer, is_plug_cause, is_plug_refusal};
+ghost use Rattle.report_lines.specs.Forms.{plug_answer, pull_at};
 ghost use Rattle.report_lines.specs.Forms.{pull_said, plug_at, plug_said, broken_of, broken_said, cable_said};
 
 use crate::line::ReportLine;
