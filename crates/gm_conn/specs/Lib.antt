@@ -7,3 +7,4 @@ pub mod First
 pub mod Lane
 pub mod Lanes
 pub mod Sets
+pub mod MessageList

@@ -26,7 +26,7 @@
 //! |---|---|
 //! | `sender`, `receiver`, `ring`, `desc` | the two halves, and the messages that wait at a sender |
 //! | `pair`, `event` | two halves and what is on its way between them, for tests of other layers |
-//! | `lanes`, `lane`, `used_lane`, `sets`, `number` | all lanes of a host, one lane, and which is next |
+//! | `lanes`, `lane`, `used_lane`, `message_list`, `sets`, `number` | all lanes of a host, one lane with its messages, and which is next |
 //! | `envelope`, `ticket`, `due` | a message and whom it is for; what is known of it until it is acknowledged; a frame that is due |
 //! | `laws`, `examples` | laws of a pair and worked examples |
 #![tactic(auto)]
@@ -39,6 +39,7 @@ mod examples;
 mod lane;
 mod lanes;
 mod laws;
+mod message_list;
 mod number;
 mod pair;
 mod receiver;

@@ -1,7 +1,6 @@
 //! One lane of a host on which something was sent or taken: its connections with one peer, of one priority.
 
-ghost use Rattle.std.specs.Prelude.{◌≡◌, ◌<◌, ◌≤◌, ◌+◌, ◌++◌, true, List, length, take, drop, slice_get, vec_len, Some};
-ghost use Rattle.std.specs.Prelude.{vec_capacity};
+ghost use Rattle.std.specs.Prelude.{◌≡◌, ◌<◌, ◌≤◌, ◌+◌, ◌++◌, true, List, length, take, drop, slice_get, Some};
 ghost use Rattle.std.specs.Prelude.{IsSome, IfSome, OnOk, OnErr, IfOk, IfErr, is_some, option_map};
 ghost use Rattle.net_defs.specs.Refusal.{Refuses};
 ghost use Rattle.gm_defs.specs.Body.{is_prio, is_head, is_last, message_limit};
@@ -14,7 +13,9 @@ ghost use Rattle.world_defs.specs.Lane.{lane_answered, got_after, coming_after, 
 ghost use Rattle.world_defs.specs.Hearing.{message_of};
 ghost use Rattle.gm_conn.specs.Lane.{in_state, other_way, unused, due_frame, head_shown, head_of_frame, ticket_of};
 ghost use Rattle.gm_conn.specs.Lane.{message_in, accept_refusal, AreNumbered};
+ghost use Rattle.gm_conn.specs.MessageList.{HasRoom, messages_in};
 
+use crate::message_list::MessageList;
 use crate::{
     Ack, Desc, DueFrame, Envelope, FrameHead, OfferRefusal, Receiver, Sender, Ticket, Took,
 };
@@ -28,9 +29,9 @@ use std::mem;
 #[derive(Drop)]
 pub(crate) struct UsedLane {
     sender: Sender,
-    sent: Vec<Message>,
+    sent: MessageList,
     receiver: Receiver,
-    got: Vec<Message>,
+    got: MessageList,
     // The bytes that came so far of the message that is taken in part.
     coming: Blob,
     owes: bool,
@@ -38,6 +39,7 @@ pub(crate) struct UsedLane {
 
 impl Model for UsedLane {
     ghost use Rattle.gm_conn.specs.Lane.{HostLane, IsLane, sends_of};
+    ghost use Rattle.gm_conn.specs.MessageList.{messages_in};
 
     ghost Value = { HostLane };
 
@@ -45,16 +47,16 @@ impl Model for UsedLane {
       key = p.sender.key;
       state = record {
         sender = p.sender.numbers;
-        sent = p.sent.items;
+        sent = messages_in p.sent;
         pending = sends_of p.sender;
-        got = p.got.items;
+        got = messages_in p.got;
         coming = p.coming;
         taken = p.receiver.taken;
         owes = p.owes;
       };
     } };
 
-    ghost invariant = { λ p. IsLane p.sender p.receiver p.sent.items };
+    ghost invariant = { λ p. IsLane p.sender p.receiver (messages_in p.sent) };
 }
 
 impl UsedLane {
@@ -64,9 +66,9 @@ impl UsedLane {
     {
         UsedLane {
             sender: Sender::new(alloc, host, peer, prio),
-            sent: Vec::new(alloc),
+            sent: MessageList::new(),
             receiver: Receiver::new(peer, host, prio),
-            got: Vec::new(alloc),
+            got: MessageList::new(),
             coming: Blob::empty(),
             owes: false,
         }
@@ -179,7 +181,7 @@ impl UsedLane {
     {
         self.sender.reserve(len)?;
         self.sender.in_order();
-        make_room(&mut self.sent)?;
+        make_room(alloc, &mut self.sent)?;
         let message = message_in(alloc, e, b, len)?;
         let _first = self.sender.offer(Desc {
             ticket: usize::from(token),
@@ -245,38 +247,26 @@ impl UsedLane {
     pub(crate) fn sent(&self) -> &[Message]
         ensures { result.now ≡ self.now.state.sent }
     {
-        &self.sent
+        self.sent.list()
     }
 
     /// The messages that were taken from the peer, in order.
     pub(crate) fn got(&self) -> &[Message]
         ensures { result.now ≡ self.now.state.got }
     {
-        &self.got
+        self.got.list()
     }
 }
 
 // Makes room for one message more that is to be sent.
-fn make_room(sent: &mut Vec<Message>) -> Result<(), OfferRefusal>
-    ensures items { sent.new.items ≡ sent.old.items }
-    ensures room { OnOk result (vec_len sent.new < vec_capacity sent.new) }
+fn make_room(alloc: Global, sent: &mut MessageList) -> Result<(), OfferRefusal>
+    ensures items { messages_in sent.new ≡ messages_in sent.old }
+    ensures room { OnOk result (HasRoom sent.new) }
     ensures err { IfErr result (λ e. e ≡ OfferRefusal.NoMemory) }
 {
-    match make_message_room(sent) {
+    match sent.make_room(alloc) {
         Ok(()) => Ok(()),
         Err(_) => Err(OfferRefusal::NoMemory),
-    }
-}
-
-// Makes room for one message more: for the first alone at first, since many lanes have no second.
-fn make_message_room(messages: &mut Vec<Message>) -> Result<(), AllocError>
-    ensures items { messages.new.items ≡ messages.old.items }
-    ensures room { OnOk result (vec_len messages.new < vec_capacity messages.new) }
-{
-    if messages.is_empty() {
-        messages.reserve_exact(1)
-    } else {
-        messages.reserve(1)
     }
 }
 
@@ -302,21 +292,21 @@ fn message_in(alloc: Global, e: Envelope, b: &mut Reg, len: u32) -> Result<Messa
 // that were got.
 fn keep(
     alloc: Global,
-    got: &mut Vec<Message>,
+    got: &mut MessageList,
     coming: &mut Blob,
     took: Took,
     h: &FrameHead,
     part: &[u8],
 ) -> Result<(), AllocError>
-    ensures got { OnOk result (got.new.items ≡
-        got_after got.old.items coming.old took (message_of h.now part.now)) }
+    ensures got { OnOk result (messages_in got.new ≡
+        got_after (messages_in got.old) coming.old took (message_of h.now part.now)) }
     ensures coming { OnOk result (coming.new ≡ coming_after coming.old took (message_of h.now part.now)) }
-    ensures err { OnErr result (got.new.items ≡ got.old.items) }
+    ensures err { OnErr result (messages_in got.new ≡ messages_in got.old) }
     ensures none_came { OnErr result (coming.new ≡ coming.old) }
 {
     match took {
         Took::Whole => {
-            make_message_room(got)?;
+            got.make_room(alloc)?;
             append(alloc, coming, h, part)?;
             got.push_reserved(Message {
                 sport: h.sport,

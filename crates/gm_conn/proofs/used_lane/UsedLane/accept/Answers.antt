@@ -4,6 +4,7 @@ use Rattle.gm_conn.specs.declared.desc.Desc.{Desc}
 use Rattle.gm_conn.specs.Halves.{Describes}
 use Rattle.gm_conn.specs.Lane.{IsLane}
 use Rattle.gm_conn.proofs.OneLane.{described, accepted-is, roomier-lane}
+use Rattle.gm_conn.specs.MessageList.{messages_in}
 use Rattle.gm_conn.proofs.used_lane.UsedLane.accept.Goals as goal
 
 pub offer-first-requires-clause-by_rules : goal.offer-first-requires-clause-by_rules
@@ -15,7 +16,7 @@ offer-first-requires-clause-by_rules c =
 pub invariant_of-self-2 : goal.invariant_of-self-2
 invariant_of-self-2 c =
     let v = c.reserve.new.self in
-    let ms = c.self.inside.sent.items in
+    let ms = messages_in c.self.inside.sent in
     let m : Message = c.in_ok-message.message in
     let d : Desc = record { ticket = c.from.result; sport = c.args.e.sport; dport = c.args.e.dport; prio = c.args.e.prio; total = c.args.len } in
     let is : m ≡ record { sport = c.args.e.sport; dport = c.args.e.dport; prio = c.args.e.prio; body = take c.args.len c.args.b.now } = c.in_ok-message.ensures.ok in
@@ -25,7 +26,7 @@ invariant_of-self-2 c =
     let small = c.requires.length in
     let short = ap (λ x. length x.body) is in
     let new = c.offer-first.ensures.new in
-    let sent : c.push_reserved.new.self.items ≡ ms ++ m ∷ [] = c.push_reserved.ensures.items ∙ ap (λ xs. xs ++ m ∷ []) c.make_room.ensures.items in
+    let sent : messages_in c.push_reserved.new.self ≡ ms ++ m ∷ [] = c.push_reserved.ensures ∙ ap (λ xs. xs ++ m ∷ []) c.make_room.ensures.items in
     let same : d.ticket ≡ c.args.token = c.from.ensures in
     let fits = c.ranges.token.fits in
     let lane : IsLane c.offer-first.new.self c.self.inside.receiver (ms ++ m ∷ []) =
