@@ -29,7 +29,7 @@ fn main(rt: HostRuntime) -> ExitCode {
         Ok(tally) if tally.failed == 0 => ExitCode::SUCCESS,
         Ok(_) => ExitCode::from(1),
         Err(e) => {
-            let _ = eprintln!(rt; "rows: {e}");
+            let _ = eprintln!(rt; "worked_runs: {e}");
             ExitCode::from(2)
         }
     }
