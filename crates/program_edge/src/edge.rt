@@ -1,13 +1,14 @@
-//! The call, the last write and the exit status.
+//! The words, the call and the exit status.
 
-ghost use Rattle.std.specs.Prelude.{◌≡◌, ℕ, List};
+ghost use Rattle.std.specs.Prelude.{◌≡◌, ℕ, List, map, IfOk, string_bytes};
+ghost use Rattle.std.specs.Iterator.{Drains, IsFinite};
 ghost use Rattle.std.specs.IoError.{error_kind};
 ghost use Rattle.program_edge.specs.Edge.{Moment, ProgramEnds, kept_taken};
 
 use crate::kept::KeptSink;
 use fab_outer::{Sink, Source};
 use fab_text::Word;
-use std::alloc::Global;
+use std::alloc::{AllocError, Global};
 use std::io::{Error, ErrorKind};
 
 // The exit status where the last write failed.
@@ -67,6 +68,23 @@ pub fn run_kept<T: TopCall, S: Source, K: Sink>(
         Ok(_) => number,
         Err(_) => WRITE_FAULT,
     }
+}
+
+/// The words of a command line, in order.
+pub fn words_of<I: Iterator<Item = String> + Drop>(
+    alloc: Global,
+    texts: I,
+) -> Result<Vec<Word>, AllocError>
+    requires can { I.can_next texts }
+    requires ends { IsFinite (I.remaining texts) }
+    ensures { IfOk result (λ words. (all : _) × Drains I.next_gives texts all
+        × (words.items ≡ map string_bytes all)) }
+{
+    let mut words = Vec::new(alloc);
+    for text in texts {
+        words.push(Word::new(text.into_bytes()))?;
+    }
+    Ok(words)
 }
 
 /// The exit status where the program couldn't begin: 6 for want of memory, 8 where the system refused.
