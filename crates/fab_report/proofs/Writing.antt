@@ -5,10 +5,12 @@ use Rattle.std.proofs.lemmas.Fmt.{decimal_digit, decimal_step}
 use Rattle.std.proofs.lemmas.Grind.{flat_map-append}
 use Rattle.std.proofs.lemmas.List.{append_assoc}
 use Rattle.std.proofs.lemmas.List.Folds.{flat_map-map}
+use Rattle.net_defs.specs.Network.{Network}
 use Rattle.fab_text.specs.Written.{spaced}
 use Rattle.line_writing.proofs.Written.{spaced_behind}
 use Rattle.run_defs.specs.declared.line.PlaceEntry.{PlaceEntry}
-use Rattle.run_defs.specs.LineText.{turn_text, place_text}
+use Rattle.run_defs.specs.declared.line.Line.TheVariants.{Tokens}
+use Rattle.run_defs.specs.LineText.{turn_text, place_text, host_name, words_in}
 use Rattle.fab_report.specs.Words.{behind}
 
 -- words with one space between them are the first, and two lists of others after it
@@ -53,6 +55,15 @@ placed old xs ys {t} {u} e f g =
     followed_by old (map place_text xs) (codes "recv" ∷ map place_text ys)
     (e ∙ ap (λ z. old ++ z) (sym (places_behind xs)))
     (followed_by t (codes "recv" ∷ []) (map place_text ys) f (g ∙ ap (λ z. u ++ z) (sym (places_behind ys))))
+
+-- the line of a port's tokens, part by part
+pub tokens_written : (n : Network) (host port : ℕ) (xs ys : List PlaceEntry) {t u v w : List ℕ} → t ≡ spaced (codes "tokens" ∷ host_name n host ∷ decimal port ∷ codes "send" ∷ [])
+    → u ≡ t ++ flat_map (λ x. 32 ∷ place_text x) xs
+    → v ≡ u ++ codes " recv"
+    → w ≡ v ++ flat_map (λ x. 32 ∷ place_text x) ys
+    → w ≡ spaced (words_in n (Tokens host port xs ys))
+tokens_written n host port xs ys {t} e f g h =
+    continued [] (codes "tokens") (host_name n host ∷ decimal port ∷ codes "send" ∷ []) (map place_text xs ++ codes "recv" ∷ map place_text ys) e (placed t xs ys f g h)
 
 -- three bytes after a text, one after the other
 pub three : (old : List ℕ) (a b c : ℕ) {t u v : List ℕ} → t ≡ old ++ a ∷ [] → u ≡ t ++ b ∷ [] → v ≡ u ++ c ∷ [] → v ≡ old ++ a ∷ b ∷ c ∷ []

@@ -27,8 +27,8 @@ use port_graph::{Fabric, Place, Vertex};
 use run_defs::{InstallCause, Line};
 use std::alloc::{AllocError, Global};
 
-/// The bytes that are taken for a line at once. Most lines are shorter, so that their text never moves.
-pub(crate) const LINE_ROOM: usize = 48;
+// The bytes that are taken for a line at once. Most lines are shorter, so that their text never moves.
+const LINE_ROOM: usize = 48;
 
 /// The text of a line with its end. The hosts, switches and ends that it names are of the fabric, whose names it is
 /// printed with.

@@ -1,8 +1,8 @@
 //! Where the tokens of a port are.
 
-ghost use Rattle.std.specs.Prelude.{◌≡◌, ◌++◌, ◌∷◌, [], OnOk, codes, flat_map, map};
+ghost use Rattle.std.specs.Prelude.{◌≡◌, ◌++◌, ◌∷◌, [], OnOk, codes, decimal, flat_map, map};
 ghost use Rattle.fab_text.specs.Written.{spaced};
-ghost use Rattle.run_defs.specs.LineText.{place_text, place_word, words_in};
+ghost use Rattle.run_defs.specs.LineText.{host_name, place_text, place_word, words_in};
 ghost use Rattle.run_defs.specs.declared.line.Line.TheVariants.{Tokens};
 ghost use Rattle.fab_report.specs.There.{IsHost};
 ghost use Rattle.fab_report.specs.Words.{behind};
@@ -27,10 +27,24 @@ pub(crate) fn tokens_line(
     ensures { OnOk result (text.new.items ≡ text.old.items
         ++ spaced (words_in f.now (Tokens host port sends.now recvs.now))) }
 {
+    begin_tokens(text, f, host, port)?;
+    append_both(text, sends, recvs)
+}
+
+/// `tokens H P send`
+pub(crate) fn begin_tokens(
+    text: &mut Vec<u8>,
+    f: &Fabric,
+    host: u16,
+    port: u8,
+) -> Result<(), AllocError>
+    requires { IsHost f.now host }
+    ensures { OnOk result (text.new.items ≡ text.old.items
+        ++ spaced (codes "tokens" ∷ host_name f.now host ∷ decimal port ∷ codes "send" ∷ [])) }
+{
     let name = Text(f.name_of(Vertex::Host(host)));
     let port = Number(u64::from(port));
-    append_words(text, &[Text(b"tokens"), name, port, Text(b"send")])?;
-    append_both(text, sends, recvs)
+    append_words(text, &[Text(b"tokens"), name, port, Text(b"send")])
 }
 
 // The tokens to send with and those to receive with, after other words.
@@ -57,8 +71,8 @@ fn append_places(text: &mut Vec<u8>, places: &[PlaceEntry]) -> Result<(), AllocE
     Ok(())
 }
 
-// ` T=PLACE`
-fn append_place(text: &mut Vec<u8>, entry: PlaceEntry) -> Result<(), AllocError>
+/// ` T=PLACE`
+pub(crate) fn append_place(text: &mut Vec<u8>, entry: PlaceEntry) -> Result<(), AllocError>
     ensures { OnOk result (text.new.items ≡ text.old.items ++ 32 ∷ place_text entry) }
 {
     let place = word_of(entry.place);

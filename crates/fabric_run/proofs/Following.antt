@@ -1,5 +1,5 @@
 -- What follows from the promise of a text.
-use Rattle.std.proofs.Common.{◌<◌, suc, List, [], ◌∷◌, ◌++◌, take, refl, sym, ◌∙◌, subst, arith}
+use Rattle.std.proofs.Common.{◌<◌, suc, List, [], ◌∷◌, ◌++◌, take, refl, sym, subst, arith}
 use Rattle.world_defs.specs.World.{WorldState, last_count}
 use Rattle.world_defs.specs.Sound.{IsSound}
 use Rattle.world_defs.specs.Acts.{acted_all, MayActAll}

@@ -19,7 +19,7 @@ use crate::status::Status;
 use fab_outer::{Sink, write_all};
 use fab_report::{Figure, begin_summary, end_summary};
 use input_texts::{Accepted, read_generated};
-use run_session::{Command, Session};
+use run_session::{Command, Printed, Session};
 use std::alloc::{AllocError, Global};
 
 /// Runs the text of so many hosts and a seed, and writes the summary of its run once all its commands ran.
@@ -93,9 +93,10 @@ fn run_commands(
     ensures counted { IfOk result (λ r. HaveCounted (fabric_of session.world) commands.now r.1.items r.0) }
     ensures vertices { IfOk result (λ r. HasVerticesOf (fabric_of session.world) r.0) }
 {
+    let mut printed = Printed::nothing(alloc);
     let mut figures = Vec::new(alloc);
     for command in commands {
-        session = run_command(alloc, session, command, &mut figures)?;
+        session = run_command(alloc, session, command, &mut printed, &mut figures)?;
     }
     Ok((session, figures))
 }
@@ -103,18 +104,19 @@ fn run_commands(
 // Lets a session do a command, and puts the figure of what it printed, if there is one, after the others.
 fn run_command(
     alloc: Global,
-    session: Session,
+    mut session: Session,
     command: &Command,
+    printed: &mut Printed,
     figures: &mut Vec<Figure>,
 ) -> Result<Session, AllocError>
     requires command { IsCommandOf (fabric_of session.world) command.now }
     ensures counted { IfOk result (λ next. IsCounted session command.now next figures.old.items figures.new.items) }
     ensures vertices { IfOk result (λ next. VerticesStay session.world next.world) }
 {
-    match session.perform(alloc, command) {
-        Ok((next, printed)) => keep_figure(next, printed.figure(), figures),
-        Err((wanting, _)) => {
-            wanting.end();
+    match session.perform(alloc, command, printed) {
+        Ok(()) => keep_figure(session, printed.figure(), figures),
+        Err(_) => {
+            session.end();
             Err(AllocError)
         }
     }

@@ -21,7 +21,7 @@ use crate::status::Status;
 use fab_outer::{ReadEnd, Sink, Source, read_all, write_all};
 use fab_text::{FaultKind, TextFault, Word};
 use input_texts::{Accepted, Form, form_of, read_text, refusal_line};
-use run_session::{Command, Session};
+use run_session::{Command, Printed, Session};
 use std::alloc::Global;
 
 // The most bytes of an input.
@@ -168,7 +168,7 @@ fn run_script<K: Sink>(alloc: Global, accepted: Accepted, out: &mut K) -> Ran
     }
 }
 
-// Lets a new session do commands, and writes what each printed once it has run.
+// Lets a new session do commands, and writes what each printed once it has run. All print in one room.
 fn run_commands<K: Sink>(
     alloc: Global,
     mut session: Session,
@@ -182,15 +182,12 @@ fn run_commands<K: Sink>(
     ensures write_fault { result.status ≡ Status.WriteFault → Rose (K.faults out.old) (K.faults out.new) }
     ensures later { K.faults out.old ≤ K.faults out.new }
 {
+    let mut printed = Printed::nothing(alloc);
     for command in commands {
-        let text = match session.exec(alloc, command) {
-            Ok((next, text)) => {
-                session = next;
-                text
-            }
-            Err((wanting, _)) => return Ran::with_session(Status::NoMemory, wanting),
+        let Ok(()) = session.perform(alloc, command, &mut printed) else {
+            return Ran::with_session(Status::NoMemory, session);
         };
-        if write_all(out, &text).is_err() {
+        if write_all(out, printed.text()).is_err() {
             return Ran::with_session(Status::WriteFault, session);
         }
     }

@@ -1,6 +1,6 @@
 //! The circuit links of a world's fabric, and their text.
 
-ghost use Rattle.std.specs.Prelude.{◌≡◌, ◌≤◌, IfOk, IfErr};
+ghost use Rattle.std.specs.Prelude.{◌≡◌, ◌≤◌, IfErr, OnOk};
 ghost use Rattle.world_defs.specs.World.{fabric_of};
 ghost use Rattle.fab_report.specs.There.{IsHost};
 ghost use Rattle.map_making.specs.Circuit.{IsCircuitPrinted};
@@ -17,14 +17,16 @@ pub(crate) fn circuit(
     w: &World,
     host: u16,
     depth: u8,
-) -> Result<Printed, OutOfMemory>
+    printed: &mut Printed,
+) -> Result<(), OutOfMemory>
     requires there { IsHost (fabric_of w.now) host }
     requires shallow { depth ≤ 32 }
-    ensures printed { IfOk result (λ p. IsCircuitPrinted (fabric_of w.now) host depth p) }
+    ensures printed { OnOk result (IsCircuitPrinted (fabric_of w.now) host depth printed.new) }
     ensures doing { IfErr result (λ e. e ≡ OutOfMemory.InDoing) }
 {
-    match print_circuit(alloc, w.fabric(), host, depth) {
-        Ok(printed) => Ok(printed),
-        Err(_) => Err(OutOfMemory::InDoing),
-    }
+    let Ok(told) = print_circuit(alloc, w.fabric(), host, depth) else {
+        return Err(OutOfMemory::InDoing);
+    };
+    *printed = told;
+    Ok(())
 }

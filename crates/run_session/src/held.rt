@@ -1,6 +1,6 @@
 //! What a session holds, behind its box.
 
-ghost use Rattle.std.specs.Prelude.{◌≡◌, true, Option, Some, None, option_map, IfOk, IfErr, OnErr};
+ghost use Rattle.std.specs.Prelude.{◌≡◌, true, Option, Some, None, option_map, IfErr, OnOk, OnErr};
 ghost use Rattle.link_defs.specs.Links.{is_idle};
 ghost use Rattle.world_defs.specs.World.{fabric_of};
 ghost use Rattle.run_defs.specs.Duos.{beside, IsOther};
@@ -76,9 +76,14 @@ impl Held {
 
     /// Does a command. Where memory runs out, the world is one that a prefix of the command's acts leads to, and the
     /// last map and the last routes are as they were.
-    pub(crate) fn obey(&mut self, alloc: Global, c: &Command) -> Result<Printed, OutOfMemory>
+    pub(crate) fn obey(
+        &mut self,
+        alloc: Global,
+        c: &Command,
+        printed: &mut Printed,
+    ) -> Result<(), OutOfMemory>
         requires command { IsCommandOf (fabric_of self.old.world) c.now }
-        ensures obeyed { IfOk result (λ p. IsObeyed self.old c.now self.new p) }
+        ensures obeyed { OnOk result (IsObeyed self.old c.now self.new printed.new) }
         ensures cables { GoesOn self.old.world self.new.world }
         ensures kept_map { OnErr result (self.new.last_map ≡ self.old.last_map) }
         ensures kept_routes { OnErr result (self.new.last_routes ≡ self.old.last_routes) }
@@ -87,17 +92,22 @@ impl Held {
         ensures duo { OnErr result (IsDuoLeft self.old c.now self.new.duo) }
     {
         match c {
-            Command::Duo(e) => self.obey_duo(alloc, *e),
-            _ => self.obey_other(alloc, c),
+            Command::Duo(e) => self.obey_duo(alloc, *e, printed),
+            _ => self.obey_other(alloc, c, printed),
         }
     }
 
     // Does a command that is none of the two hosts that restart: these stay.
     #[tactic(auto, using(crate::proofs::Beside::beside_obeyed, crate::proofs::Beside::beside_cut))]
-    fn obey_other(&mut self, alloc: Global, c: &Command) -> Result<Printed, OutOfMemory>
+    fn obey_other(
+        &mut self,
+        alloc: Global,
+        c: &Command,
+        printed: &mut Printed,
+    ) -> Result<(), OutOfMemory>
         requires command { IsCommandOf (fabric_of self.old.world) c.now }
         requires other { IsOther c.now }
-        ensures obeyed { IfOk result (λ p. IsObeyed self.old c.now self.new p) }
+        ensures obeyed { OnOk result (IsObeyed self.old c.now self.new printed.new) }
         ensures cables { GoesOn self.old.world self.new.world }
         ensures kept_map { OnErr result (self.new.last_map ≡ self.old.last_map) }
         ensures kept_routes { OnErr result (self.new.last_routes ≡ self.old.last_routes) }
@@ -112,19 +122,25 @@ impl Held {
             &mut self.last_map,
             &mut self.last_routes,
             c,
+            printed,
         )
     }
 
     // Does one event of the two hosts that restart: all else stays.
     #[tactic(auto, using(crate::proofs::Beside::duo_obeyed, crate::proofs::Beside::duo_left))]
-    fn obey_duo(&mut self, alloc: Global, e: DuoEvent) -> Result<Printed, OutOfMemory>
+    fn obey_duo(
+        &mut self,
+        alloc: Global,
+        e: DuoEvent,
+        printed: &mut Printed,
+    ) -> Result<(), OutOfMemory>
         requires event { IsDuoOf e }
-        ensures obeyed { IfOk result (λ p. IsObeyed self.old (Command.Duo e) self.new p) }
+        ensures obeyed { OnOk result (IsObeyed self.old (Command.Duo e) self.new printed.new) }
         ensures rest { self.new ≡ beside self.old self.new.duo }
         ensures duo { OnErr result (IsDuoLeft self.old (Command.Duo e) self.new.duo) }
         ensures doing { IfErr result (λ e. e ≡ OutOfMemory.InDoing) }
     {
-        duo_text(alloc, &self.world, &mut self.duo, e)
+        duo_text(alloc, &self.world, &mut self.duo, e, printed)
     }
 
     /// The two hosts that restart, once they have begun.
@@ -167,16 +183,17 @@ fn duo_text(
     slot: &Option<World>,
     hosts: &mut Option<Duo>,
     e: DuoEvent,
-) -> Result<Printed, OutOfMemory>
+    printed: &mut Printed,
+) -> Result<(), OutOfMemory>
     requires there { slot.now ≡ Some (world_in slot.now) }
     requires event { IsDuoOf e }
-    ensures done { IfOk result (λ p. IsDuoDone (fabric_of (world_in slot.now)) e hosts.old hosts.new p) }
+    ensures done { OnOk result (IsDuoDone (fabric_of (world_in slot.now)) e hosts.old hosts.new printed.new) }
     ensures err { OnErr result (IsDuoCut e hosts.old hosts.new) }
     ensures doing { IfErr result (λ e. e ≡ OutOfMemory.InDoing) }
 {
     match slot {
-        Some(world) => match duo(alloc, world.fabric(), hosts, e) {
-            Ok(printed) => Ok(printed),
+        Some(world) => match duo(alloc, world.fabric(), hosts, e, printed) {
+            Ok(()) => Ok(()),
             Err(_) => Err(OutOfMemory::InDoing),
         },
         None => unreachable!(),
@@ -191,7 +208,8 @@ fn obey_parts(
     last_map: &mut Option<LastMade>,
     last_routes: &mut Option<LastFound>,
     c: &Command,
-) -> Result<Printed, OutOfMemory>
+    printed: &mut Printed,
+) -> Result<(), OutOfMemory>
     requires there { slot.old ≡ Some (world_in slot.old) }
     requires kept { IsKept (session_of (world_in slot.old) last_map.old last_routes.old) }
     requires links { AreWalkLinks (world_in slot.old).links.cables links.old }
@@ -200,8 +218,8 @@ fn obey_parts(
     ensures there { slot.new ≡ Some (world_in slot.new) }
     ensures kept { IsKept (session_of (world_in slot.new) last_map.new last_routes.new) }
     ensures links { AreWalkLinks (world_in slot.new).links.cables links.new }
-    ensures obeyed { IfOk result (λ p. IsObeyed (session_of (world_in slot.old) last_map.old last_routes.old) c.now
-        (session_of (world_in slot.new) last_map.new last_routes.new) p) }
+    ensures obeyed { OnOk result (IsObeyed (session_of (world_in slot.old) last_map.old last_routes.old) c.now
+        (session_of (world_in slot.new) last_map.new last_routes.new) printed.new) }
     ensures cables { GoesOn (world_in slot.old) (world_in slot.new) }
     ensures kept_map { OnErr result (last_map.new ≡ last_map.old) }
     ensures kept_routes { OnErr result (last_routes.new ≡ last_routes.old) }
@@ -214,8 +232,8 @@ fn obey_parts(
         unreachable!()
     };
     match map_ordered(world, c) {
-        Some(order) => map_slot(alloc, slot, last_map, order),
-        None => obey_here(alloc, world, links, last_map, last_routes, c),
+        Some(order) => map_slot(alloc, slot, last_map, order, printed),
+        None => obey_here(alloc, world, links, last_map, last_routes, c, printed),
     }
 }
 
@@ -237,15 +255,16 @@ fn map_slot(
     slot: &mut Option<World>,
     last_map: &mut Option<LastMade>,
     order: MapOrder,
-) -> Result<Printed, OutOfMemory>
+    printed: &mut Printed,
+) -> Result<(), OutOfMemory>
     requires there { slot.old ≡ Some (world_in slot.old) }
     requires idle { is_idle (world_in slot.old).links ≡ true }
     requires order { IsCommandOf (fabric_of (world_in slot.old)) (map_of order) }
     requires kept { IsLastMap (world_in slot.old).links.cables last_map.old }
     ensures there { slot.new ≡ Some (world_in slot.new) }
-    ensures obeyed { IfOk result (λ p. (found : Option LastRoutes)
+    ensures obeyed { OnOk result ((found : Option LastRoutes)
         → IsObeyed (session_of (world_in slot.old) last_map.old found) (map_of order)
-        (session_of (world_in slot.new) last_map.new found) p) }
+        (session_of (world_in slot.new) last_map.new found) printed.new) }
     ensures kept { IsLastMap (world_in slot.new).links.cables last_map.new }
     ensures cables { GoesOn (world_in slot.old) (world_in slot.new) }
     ensures err { OnErr result (last_map.new ≡ last_map.old) }
@@ -256,7 +275,7 @@ fn map_slot(
     let Some(world) = slot.take() else {
         unreachable!()
     };
-    let (world, printed) = map(alloc, world, last_map, order);
+    let (world, kept) = map(alloc, world, last_map, order, printed);
     end_slot(slot.replace(world));
-    printed
+    kept
 }

@@ -1,7 +1,7 @@
 //! An installation of the last routes, and what it prints.
 
 ghost use Rattle.std.specs.Prelude.{◌≡◌, ◌≤◌, ◌∷◌, [], true, Option, Some, None, if◌then◌else◌};
-ghost use Rattle.std.specs.Prelude.{IfOk, IfErr, OnErr};
+ghost use Rattle.std.specs.Prelude.{IfErr, OnOk, OnErr};
 ghost use Rattle.link_defs.specs.Links.{is_idle};
 ghost use Rattle.world_defs.specs.World.{fabric_of, may_adopt};
 ghost use Rattle.run_defs.specs.Output.{OneLine};
@@ -33,19 +33,20 @@ pub(crate) fn install_text(
     w: &mut World,
     last: &Option<LastFound>,
     tries: u8,
-) -> Result<Printed, OutOfMemory>
+    printed: &mut Printed,
+) -> Result<(), OutOfMemory>
     requires kept { AreLastRoutes w.old.links.cables last.now }
     requires some { 1 ≤ tries }
     requires few { tries ≤ 8 }
-    ensures told { IfOk result (λ p. IsInstallTold w.old last.now tries w.new p) }
+    ensures told { OnOk result (IsInstallTold w.old last.now tries w.new printed.new) }
     ensures err { OnErr result (IsPartActed w.old (install_deed w.old tries last.now).acts w.new) }
     ensures unrefused { IfErr result (λ e. (made : Option LastMap)
         → HidesNoRefusal (session_of w.old made last.now) (Install tries) w.new e) }
     ensures cables { GoesOn w.old w.new }
 {
     match last {
-        Some(l) => install_last(alloc, w, l, tries),
-        None => refused_text(alloc, w, InstallCause::NoRoutes),
+        Some(l) => install_last(alloc, w, l, tries, printed),
+        None => refused_text(printed, w, InstallCause::NoRoutes),
     }
 }
 
@@ -56,20 +57,21 @@ fn install_last(
     w: &mut World,
     l: &LastFound,
     tries: u8,
-) -> Result<Printed, OutOfMemory>
+    printed: &mut Printed,
+) -> Result<(), OutOfMemory>
     requires kept { WereKeptRoutes w.old.links.cables l.now }
     requires some { 1 ≤ tries }
     requires few { tries ≤ 8 }
-    ensures told { IfOk result (λ p. IsInstallTold w.old (Some l.now) tries w.new p) }
+    ensures told { OnOk result (IsInstallTold w.old (Some l.now) tries w.new printed.new) }
     ensures err { OnErr result (IsPartActed w.old (install_deed w.old tries (Some l.now)).acts w.new) }
     ensures unrefused { IfErr result (λ e. (made : Option LastMap)
         → HidesNoRefusal (session_of w.old made (Some l.now)) (Install tries) w.new e) }
     ensures cables { GoesOn w.old w.new }
 {
     if w.links_idle() {
-        return install_idle(alloc, w, l, tries);
+        return install_idle(alloc, w, l, tries, printed);
     }
-    refused_text(alloc, w, InstallCause::Busy)
+    refused_text(printed, w, InstallCause::Busy)
 }
 
 // The same while no channel holds a packet.
@@ -79,20 +81,21 @@ fn install_idle(
     w: &mut World,
     l: &LastFound,
     tries: u8,
-) -> Result<Printed, OutOfMemory>
+    printed: &mut Printed,
+) -> Result<(), OutOfMemory>
     requires idle { is_idle w.old.links ≡ true }
     requires kept { WereKeptRoutes w.old.links.cables l.now }
     requires some { 1 ≤ tries }
     requires few { tries ≤ 8 }
-    ensures told { IfOk result (λ p. IsInstallTold w.old (Some l.now) tries w.new p) }
+    ensures told { OnOk result (IsInstallTold w.old (Some l.now) tries w.new printed.new) }
     ensures err { OnErr result (IsPartActed w.old (install_deed w.old tries (Some l.now)).acts w.new) }
     ensures unrefused { IfErr result (λ e. (made : Option LastMap)
         → HidesNoRefusal (session_of w.old made (Some l.now)) (Install tries) w.new e) }
     ensures cables { GoesOn w.old w.new }
 {
     match install_refused(w, l) {
-        Some(cause) => refused_text(alloc, w, cause),
-        None => install_adoptable(alloc, w, l, tries),
+        Some(cause) => refused_text(printed, w, cause),
+        None => install_adoptable(alloc, w, l, tries, printed),
     }
 }
 
@@ -127,13 +130,14 @@ fn install_adoptable(
     w: &mut World,
     l: &LastFound,
     tries: u8,
-) -> Result<Printed, OutOfMemory>
+    printed: &mut Printed,
+) -> Result<(), OutOfMemory>
     requires idle { is_idle w.old.links ≡ true }
     requires may { may_install w.old l.now ≡ true }
     requires kept { WereKeptRoutes w.old.links.cables l.now }
     requires some { 1 ≤ tries }
     requires few { tries ≤ 8 }
-    ensures told { IfOk result (λ p. IsInstallTold w.old (Some l.now) tries w.new p) }
+    ensures told { OnOk result (IsInstallTold w.old (Some l.now) tries w.new printed.new) }
     ensures err { OnErr result (IsPartActed w.old (install_deed w.old tries (Some l.now)).acts w.new) }
     ensures doing { IfErr result (λ e. e ≡ OutOfMemory.InDoing) }
     ensures cables { GoesOn w.old w.new }
@@ -142,16 +146,16 @@ fn install_adoptable(
     let Ok(installed) = adopt_and_install(alloc, w, l.mapper, &l.routes, &l.hosts, tries) else {
         return Err(OutOfMemory::InDoing);
     };
-    let Ok(text) = print_tables(alloc, w, &l.hosts, installed.acked, installed.of) else {
+    let Ok(()) = print_tables(alloc, w, &l.hosts, installed.acked, installed.of, printed) else {
         return Err(OutOfMemory::InDoing);
     };
-    Ok(text)
+    Ok(())
 }
 
 // The line of a refusal.
-fn refused_text(alloc: Global, w: &World, cause: InstallCause) -> Result<Printed, OutOfMemory>
-    ensures text { IfOk result (λ p. p ≡ printed_of (fabric_of w.now) (OneLine (InstallRefused cause) ∷ [])) }
+fn refused_text(printed: &mut Printed, w: &World, cause: InstallCause) -> Result<(), OutOfMemory>
+    ensures text { OnOk result (printed.new ≡ printed_of (fabric_of w.now) (OneLine (InstallRefused cause) ∷ [])) }
     ensures err { IfErr result (λ e. e ≡ OutOfMemory.InLine) }
 {
-    one_line(alloc, Line::InstallRefused(cause), w.fabric())
+    one_line(printed, Line::InstallRefused(cause), w.fabric())
 }

@@ -59,12 +59,12 @@ pub(crate) fn map_ordered(w: &World, c: &Command) -> Option<MapOrder>
 }
 
 /// The refusal of a map while a channel holds a packet.
-pub(crate) fn busy_text(alloc: Global, w: &World, host: u16) -> Result<Printed, OutOfMemory>
+pub(crate) fn busy_text(printed: &mut Printed, w: &World, host: u16) -> Result<(), OutOfMemory>
     requires { IsHost (fabric_of w.now) host }
-    ensures text { IfOk result (λ p. p ≡ printed_of (fabric_of w.now) (OneLine (MapBusy host) ∷ [])) }
+    ensures text { OnOk result (printed.new ≡ printed_of (fabric_of w.now) (OneLine (MapBusy host) ∷ [])) }
     ensures err { IfErr result (λ e. e ≡ OutOfMemory.InLine) }
 {
-    one_line(alloc, Line::MapBusy(host), w.fabric())
+    one_line(printed, Line::MapBusy(host), w.fabric())
 }
 
 /// Maps from a host of an idle world: the world then, and the text, unless memory ran out. The map is the last
@@ -74,13 +74,14 @@ pub(crate) fn map(
     world: World,
     last_map: &mut Option<LastMade>,
     order: MapOrder,
-) -> (World, Result<Printed, OutOfMemory>)
+    printed: &mut Printed,
+) -> (World, Result<(), OutOfMemory>)
     requires idle { is_idle world.links ≡ true }
     requires order { IsCommandOf (fabric_of world) (map_of order) }
     requires kept { IsLastMap world.links.cables last_map.old }
-    ensures obeyed { IfOk result.1 (λ p. (found : Option LastRoutes)
+    ensures obeyed { OnOk result.1 ((found : Option LastRoutes)
         → IsObeyed (session_of world last_map.old found) (map_of order)
-        (session_of result.0 last_map.new found) p) }
+        (session_of result.0 last_map.new found) printed.new) }
     ensures kept { IsLastMap result.0.links.cables last_map.new }
     ensures cables { GoesOn world result.0 }
     ensures err { OnErr result.1 (last_map.new ≡ last_map.old) }
@@ -92,8 +93,8 @@ pub(crate) fn map(
     let (world, mapping) = map_world(alloc, world, order);
     match mapping {
         Ok(mapping) => {
-            let text = keep_map(alloc, &world, order.host, mapping, last_map);
-            (world, text)
+            let kept = keep_map(alloc, &world, order.host, mapping, last_map, printed);
+            (world, kept)
         }
         Err(_) => (world, Err(OutOfMemory::InDoing)),
     }
@@ -150,14 +151,15 @@ fn keep_map(
     host: u16,
     mapping: Mapping,
     last_map: &mut Option<LastMade>,
-) -> Result<Printed, OutOfMemory>
+    printed: &mut Printed,
+) -> Result<(), OutOfMemory>
     requires there { IsHost (fabric_of w.now) host }
     requires hosts { AreOfFabric (fabric_of w.now) mapping.made.map }
     requires past { mapping.began ≤ w.now.links.cables.changes }
     requires right { mapping.made.words ≡ Complete
         → IsKeptMap (fabric_at w.now.links.cables mapping.began) host mapping.made.map }
     requires kept { IsLastMap w.now.links.cables last_map.old }
-    ensures text { IfOk result (λ p. p ≡ printed_of (fabric_of w.now)
+    ensures text { OnOk result (printed.new ≡ printed_of (fabric_of w.now)
         (map_lines host mapping.made mapping.packets)) }
     ensures last { OnOk result (last_map.new ≡ Some (record {
       mapper = host;
@@ -169,7 +171,7 @@ fn keep_map(
     ensures err { OnErr result (last_map.new ≡ last_map.old) }
     ensures doing { IfErr result (λ e. e ≡ OutOfMemory.InDoing) }
 {
-    let Ok(text) = print_made(alloc, w.fabric(), host, &mapping.made, mapping.packets) else {
+    let Ok(told) = print_made(alloc, w.fabric(), host, &mapping.made, mapping.packets) else {
         return Err(OutOfMemory::InDoing);
     };
     *last_map = Some(LastMade {
@@ -178,5 +180,6 @@ fn keep_map(
         made: mapping.made.map,
         began: mapping.began,
     });
-    Ok(text)
+    *printed = told;
+    Ok(())
 }

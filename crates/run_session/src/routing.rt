@@ -1,6 +1,6 @@
 //! The routes of the last map, and their text.
 
-ghost use Rattle.std.specs.Prelude.{◌≡◌, IfOk, IfErr, OnErr};
+ghost use Rattle.std.specs.Prelude.{◌≡◌, IfErr, OnOk, OnErr};
 ghost use Rattle.run_defs.specs.declared.command.Command.TheVariants.{Routes};
 ghost use Rattle.world_commands.specs.Cut.{HidesNoRefusal};
 ghost use Rattle.world_commands.specs.Done.{session_of};
@@ -24,19 +24,20 @@ pub(crate) fn routes(
     w: &World,
     last_map: &Option<LastMade>,
     last_routes: &mut Option<LastFound>,
-) -> Result<Printed, OutOfMemory>
+    printed: &mut Printed,
+) -> Result<(), OutOfMemory>
     requires map { IsLastMap w.now.links.cables last_map.now }
     requires kept { AreLastRoutes w.now.links.cables last_routes.old }
-    ensures obeyed { IfOk result (λ p. IsObeyed (session_of w.now last_map.now last_routes.old) Routes
-        (session_of w.now last_map.now last_routes.new) p) }
+    ensures obeyed { OnOk result (IsObeyed (session_of w.now last_map.now last_routes.old) Routes
+        (session_of w.now last_map.now last_routes.new) printed.new) }
     ensures kept { AreLastRoutes w.now.links.cables last_routes.new }
     ensures err { OnErr result (last_routes.new ≡ last_routes.old) }
     ensures unrefused { IfErr result
         (HidesNoRefusal (session_of w.now last_map.now last_routes.old) Routes w.now) }
 {
     match complete(last_map) {
-        Some(last) => keep_routes(alloc, w, last, last_routes),
-        None => one_line(alloc, Line::NoMap, w.fabric()),
+        Some(last) => keep_routes(alloc, w, last, last_routes, printed),
+        None => one_line(printed, Line::NoMap, w.fabric()),
     }
 }
 
@@ -47,10 +48,11 @@ fn keep_routes(
     w: &World,
     last: &LastMade,
     last_routes: &mut Option<LastFound>,
-) -> Result<Printed, OutOfMemory>
+    printed: &mut Printed,
+) -> Result<(), OutOfMemory>
     requires right { WasKeptMap w.now.links.cables last.now }
     requires kept { AreLastRoutes w.now.links.cables last_routes.old }
-    ensures told { IfOk result (λ p. AreRoutesTold w.now last.now last_routes.new p) }
+    ensures told { OnOk result (AreRoutesTold w.now last.now last_routes.new printed.new) }
     ensures kept { AreLastRoutes w.now.links.cables last_routes.new }
     ensures err { OnErr result (last_routes.new ≡ last_routes.old) }
     ensures doing { IfErr result (λ e. e ≡ OutOfMemory.InDoing) }
@@ -68,5 +70,6 @@ fn keep_routes(
         routes: made.set,
         began: last.began,
     });
-    Ok(made.printed)
+    *printed = made.printed;
+    Ok(())
 }

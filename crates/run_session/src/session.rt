@@ -1,6 +1,6 @@
 //! The session.
 
-ghost use Rattle.std.specs.Prelude.{◌≡◌, option_map, IfOk, IfErr};
+ghost use Rattle.std.specs.Prelude.{◌≡◌, option_map, IfOk, IfErr, OnOk, OnErr};
 ghost use Rattle.world_defs.specs.World.{fabric_of};
 ghost use Rattle.run_defs.specs.Session.{new_session};
 ghost use Rattle.fab_script.specs.Ranges.{IsCommandOf};
@@ -85,37 +85,33 @@ impl Session {
         ensures cut { IfErr result (λ r. IsCutShort self c.now r.0.world) }
         ensures duo { IfErr result (λ r. IsDuoLeft self c.now r.0.duo) }
     {
-        match self.perform(alloc, c) {
-            Ok((session, printed)) => Ok((session, printed.into_text())),
-            Err((session, _)) => Err((session, AllocError)),
+        let mut session = self;
+        let mut printed = Printed::nothing(alloc);
+        match session.perform(alloc, c, &mut printed) {
+            Ok(()) => Ok((session, printed.into_text())),
+            Err(_) => Err((session, AllocError)),
         }
     }
 
-    /// Does a command as [`Session::exec`] does: the session then, and what it printed, with what a summary shows of
-    /// it; or where memory ran out. A refused command runs out of it in its line alone.
-    #[inline(always)]
+    /// Does a command as [`Session::exec`] does, and prints it in place of what was printed before: its text, and what
+    /// a summary shows of it. So one room serves for the texts of a whole run. It says where memory ran out: a refused
+    /// command runs out of it in its line alone.
     pub fn perform(
-        self,
+        &mut self,
         alloc: Global,
         c: &Command,
-    ) -> Result<(Session, Printed), (Session, OutOfMemory)>
-        requires command { IsCommandOf (fabric_of self.world) c.now }
-        ensures ok { IfOk result (λ r. IsObeyed self c.now r.0 r.1) }
-        ensures cables { IfOk result (λ r. GoesOn self.world r.0.world) }
-        ensures err { IfErr result (λ r. GoesOn self.world r.0.world) }
-        ensures kept_map { IfErr result (λ r. r.0.last_map ≡ self.last_map) }
-        ensures kept_routes { IfErr result (λ r. r.0.last_routes ≡ self.last_routes) }
-        ensures cut { IfErr result (λ r. IsCutShort self c.now r.0.world) }
-        ensures unrefused { IfErr result (λ r. HidesNoRefusal self c.now r.0.world r.1) }
-        ensures duo { IfErr result (λ r. IsDuoLeft self c.now r.0.duo) }
+        printed: &mut Printed,
+    ) -> Result<(), OutOfMemory>
+        requires command { IsCommandOf (fabric_of self.old.world) c.now }
+        ensures ok { OnOk result (IsObeyed self.old c.now self.new printed.new) }
+        ensures cables { GoesOn self.old.world self.new.world }
+        ensures kept_map { OnErr result (self.new.last_map ≡ self.old.last_map) }
+        ensures kept_routes { OnErr result (self.new.last_routes ≡ self.old.last_routes) }
+        ensures cut { OnErr result (IsCutShort self.old c.now self.new.world) }
+        ensures unrefused { IfErr result (HidesNoRefusal self.old c.now self.new.world) }
+        ensures duo { OnErr result (IsDuoLeft self.old c.now self.new.duo) }
     {
-        let Session { mut held } = self;
-        let printed = held.obey(alloc, c);
-        let session = Session { held };
-        match printed {
-            Ok(printed) => Ok((session, printed)),
-            Err(wanting) => Err((session, wanting)),
-        }
+        self.held.obey(alloc, c, printed)
     }
 
     /// Its world.

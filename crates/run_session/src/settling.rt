@@ -1,6 +1,6 @@
 //! A settle, and its text.
 
-ghost use Rattle.std.specs.Prelude.{◌≡◌, Option, IfOk, IfErr, OnErr};
+ghost use Rattle.std.specs.Prelude.{◌≡◌, Option, IfErr, OnOk, OnErr};
 ghost use Rattle.world_defs.specs.Logs as log;
 ghost use Rattle.world_defs.specs.Row.{IsPartWay};
 ghost use Rattle.run_defs.specs.declared.command.Command.TheVariants.{Settle};
@@ -19,8 +19,12 @@ use world_drain::settle;
 /// Settles a world: its text is the line of what that came to. Running out of memory leaves a world that a prefix of
 /// its events leads to.
 #[tactic(auto, using(crate::proofs::Obeying::settled_so, crate::proofs::Going::goes_pulled))]
-pub(crate) fn settle_text(alloc: Global, w: &mut World) -> Result<Printed, OutOfMemory>
-    ensures done { IfOk result (λ p. IsDone Settle w.old w.new p) }
+pub(crate) fn settle_text(
+    alloc: Global,
+    w: &mut World,
+    printed: &mut Printed,
+) -> Result<(), OutOfMemory>
+    ensures done { OnOk result (IsDone Settle w.old w.new printed.new) }
     ensures err { OnErr result (IsPartWay w.old (log.settle w.old).events w.new) }
     ensures unrefused { IfErr result (λ e. (made : Option LastMap) → (found : Option LastRoutes)
         → HidesNoRefusal (session_of w.old made found) Settle w.new e) }
@@ -34,5 +38,5 @@ pub(crate) fn settle_text(alloc: Global, w: &mut World) -> Result<Printed, OutOf
         resets: settled.resets,
         unacked: settled.unacked,
     };
-    one_line(alloc, line, w.fabric())
+    one_line(printed, line, w.fabric())
 }

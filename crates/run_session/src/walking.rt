@@ -41,18 +41,19 @@ pub(crate) fn walk_text(
     links: &mut WalkLinks,
     host: u16,
     turns: &[i8],
-) -> Result<Printed, OutOfMemory>
+    printed: &mut Printed,
+) -> Result<(), OutOfMemory>
     requires short { length turns.now ≤ 64 }
     requires turns { All IsTurn turns.now }
     requires links { AreWalkLinks w.now.links.cables links.old }
-    ensures done { IfOk result (λ p. IsDone (Walk host turns.now) w.now w.now p) }
+    ensures done { OnOk result (IsDone (Walk host turns.now) w.now w.now printed.new) }
     ensures err { IfErr result (λ e. IsLeft (Walk host turns.now) w.now w.now e) }
     ensures links { AreWalkLinks w.now.links.cables links.new }
 {
     let Ok(()) = renew(alloc, w, links) else {
         return Err(OutOfMemory::InDoing);
     };
-    walk(alloc, w, &mut links.links, host, turns)
+    walk(alloc, w, &mut links.links, host, turns, printed)
 }
 
 // Makes the links anew where a cable was pulled or plugged since they were made.

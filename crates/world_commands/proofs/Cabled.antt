@@ -1,6 +1,6 @@
 -- That commands of cables and epochs are done over a world, and what is left of them where memory runs out.
 use Rattle.std.proofs.Common.{◌≡◌, ◌<◌, ℕ, Bool, true, false, ◌&&◌, nat_lt, List, [], ◌∷◌, ◌++◌, map, length, Option, Some, None, is_some, is_none, refl, sym, ◌∙◌, ap, subst, ◌⊎◌, inl, inr, if◌then◌else◌}
-use Rattle.std.specs.Prelude.{IfSome, IfOk, OnErr, Result, Ok, Err, option_map}
+use Rattle.std.specs.Prelude.{IfSome, OnErr, Result, Err, option_map}
 use Rattle.std.specs.List.{AllByRecursion, filter}
 use Rattle.std.proofs.lemmas.List.{append_assoc, append-nil}
 use Rattle.net_defs.specs.declared.vertex.Vertex.{Vertex}
@@ -225,10 +225,8 @@ broken_told n w a told is text none =
 pub broken_so : (w : WorldState) (told : PrintedState) → told ≡ printed_of (fabric_of w) (lines (broken_lines w w.adopted)) → IsDone Broken w w told
 broken_so w told e = record { output = lines (broken_lines w w.adopted); determined = λ made found. refl; printed = e }
 
-pub broken_all : {E : Type 0} (w : WorldState) (a : Adoption) → w.adopted ≡ Some a → (r : Result PrintedState E) → IfOk r (λ p. p.text ≡ pairs_text (fabric_of w) (broken_pairs w) ++ line_text (fabric_of w) EndBroken)
-    → IfOk r (λ p. p.figures ≡ []) → IfOk r (λ p. IsDone Broken w w p)
-broken_all w a is (Ok told) text none = broken_so w told (broken_told (fabric_of w) w a told is text none)
-broken_all w a is (Err e) text none = tt
+pub broken_all : (w : WorldState) (a : Adoption) (told : PrintedState) → w.adopted ≡ Some a → told ≡ record { text = pairs_text (fabric_of w) (broken_pairs w) ++ line_text (fabric_of w) EndBroken; figures = [] } → IsDone Broken w w told
+broken_all w a told is e = broken_so w told (broken_told (fabric_of w) w a told is (ap (λ (p : PrintedState). p.text) e) (ap (λ (p : PrintedState). p.figures) e))
 
 pub broken_none : (w : WorldState) (told : PrintedState) → w.adopted ≡ None → told ≡ printed_of (fabric_of w) (OneLine NoBroken ∷ []) → IsDone Broken w w told
 broken_none w told none e = broken_so w told (e ∙ ap (λ o. printed_of (fabric_of w) (lines (broken_lines w o))) (sym none))

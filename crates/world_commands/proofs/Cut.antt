@@ -1,6 +1,6 @@
 -- What is left of commands where memory runs out: a refused one runs out of it in its text alone.
 use Rattle.std.proofs.Common.{◌≡◌, ℕ, ℤ, true, false, List, [], ◌∷◌, Option, Some, None, Result, Ok, Err, refl, sym, ◌∙◌, ap, subst}
-use Rattle.std.specs.Prelude.{IfOk, IfErr}
+use Rattle.std.specs.Prelude.{IfErr}
 use Rattle.net_defs.specs.Route.{place}
 use Rattle.world_defs.specs.declared.event.Event.{Event}
 use Rattle.world_defs.specs.declared.effect.Effect.{Effect}
@@ -26,7 +26,7 @@ use Rattle.world_commands.specs.declared.out_of_memory.OutOfMemory.TheVariants.{
 use Rattle.fab_world.specs.declared.clients.PortAt.{PortAt}
 use Rattle.world_commands.specs.Cut.{is_refusal_line, IsRefused, IsLeft, IsEventLeft}
 use Rattle.world_commands.specs.Cut.IsLeft.{undone, unprinted}
-use Rattle.world_commands.specs.Done.{IsCall, IsDone, session_of}
+use Rattle.world_commands.specs.Done.{IsCall, session_of}
 use Rattle.world_commands.proofs.Done.{walked, finished, planned_so, tokens_so, call_outcome, call-done, called_so, step-done, stepped_so, idle_so}
 
 -- where memory ran out while a command was done, and in its line, what holds then holds
@@ -37,11 +37,6 @@ in-doing (Err e) P p is = subst P (sym is) p
 pub in-line : {A : Type 0} (r : Result A OutOfMemory) (P : OutOfMemory → Type 0) → P InLine → IfErr r (λ e. e ≡ InLine) → IfErr r P
 in-line (Ok x) P p is = tt
 in-line (Err e) P p is = subst P (sym is) p
-
--- a text that was handed on says what it said
-pub handed-on : {A E : Type 0} (r : Result A OutOfMemory) (t : Result A E) (P : A → Type 0) → IfOk r (λ x. t ≡ Ok x) → IfOk t P → IfOk r P
-handed-on (Ok x) t P is p = subst (λ y. IfOk y P) is p
-handed-on (Err e) t P is p = tt
 
 -- what an outcome prints, and the line that it begins with
 abbrev pub output-of : Option Outcome → List Piece

@@ -1,5 +1,5 @@
 -- Events leave the hosts and the switches of the fabric, so what is printed after them has the names of before.
-use Rattle.std.proofs.Common.{◌≡◌, ◌<◌, ℕ, true, nat_lt, List, length, sym, subst}
+use Rattle.std.proofs.Common.{◌≡◌, ℕ, true, nat_lt, List, length, sym, subst}
 use Rattle.net_defs.specs.declared.vertex.Vertex.TheVariants.{Host}
 use Rattle.net_defs.specs.Network.{has_vertex}
 use Rattle.cable_history.specs.Later.{IsLater}

@@ -18,14 +18,15 @@ pub fn duo(
     f: &Fabric,
     hosts: &mut Option<Duo>,
     e: DuoEvent,
-) -> Result<Printed, AllocError>
+    printed: &mut Printed,
+) -> Result<(), AllocError>
     requires fair { IsFair e }
-    ensures done { IfOk result (λ p. IsDuoDone f.now e hosts.old hosts.new p) }
+    ensures done { OnOk result (IsDuoDone f.now e hosts.old hosts.new printed.new) }
     ensures err { OnErr result (IsDuoCut e hosts.old hosts.new) }
 {
     begin(alloc, hosts)?;
     let effect = happen(alloc, hosts, e)?;
-    Printed::duo(alloc, &effect, f)
+    printed.put_duo(&effect, f)
 }
 
 // Lets them begin, where they haven't.

@@ -47,7 +47,7 @@ pub use clients::{close, open, poll, provide, send};
 pub use doing::do_one;
 pub use duo_events::{duo, end_duo};
 pub use fab_world::PortAt;
-pub use out_of_memory::{OutOfMemory, in_line, one_line};
+pub use out_of_memory::{OutOfMemory, one_line};
 pub use places::tokens;
 pub use remapping::{broken, plug, pull, revoke};
 pub use requests::SendRequest;

@@ -1,6 +1,6 @@
 //! Where memory ran out in a command.
 
-ghost use Rattle.std.specs.Prelude.{◌≡◌, ◌∷◌, [], Ok, IfOk, IfErr};
+ghost use Rattle.std.specs.Prelude.{◌≡◌, ◌∷◌, [], IfErr, OnOk};
 ghost use Rattle.run_defs.specs.Output.{OneLine};
 ghost use Rattle.fab_report.specs.Printed.{printed_of};
 ghost use Rattle.fab_report.specs.There.{AreThere};
@@ -8,7 +8,6 @@ ghost use Rattle.fab_report.specs.There.{AreThere};
 use fab_report::Printed;
 use fab_world::Fabric;
 use run_defs::Line;
-use std::alloc::{AllocError, Global};
 
 /// Where memory ran out in a command.
 #[derive(Clone, Copy, Debug, PartialEq, Eq)]
@@ -19,35 +18,15 @@ pub enum OutOfMemory {
     InLine,
 }
 
-/// The text of a command's one line, for which memory may run out. It stands in its callers, since what it answers is
-/// long to move.
-#[inline(always)]
-pub fn one_line(alloc: Global, l: Line, f: &Fabric) -> Result<Printed, OutOfMemory>
+/// A command's one line is printed, for which memory may run out. The line is done with: callers that make one need not
+/// end it.
+pub fn one_line(printed: &mut Printed, l: Line, f: &Fabric) -> Result<(), OutOfMemory>
     requires there { AreThere f.now l }
-    ensures printed { IfOk result (λ p. p ≡ printed_of f.now (OneLine l ∷ [])) }
+    ensures printed { OnOk result (printed.new ≡ printed_of f.now (OneLine l ∷ [])) }
     ensures err { IfErr result (λ e. e ≡ OutOfMemory.InLine) }
 {
-    in_line(Printed::of_line(alloc, l, f))
-}
-
-/// The text of a command's several lines, for which memory may have run out.
-pub(crate) fn in_lines(text: Result<Printed, AllocError>) -> Result<Printed, OutOfMemory>
-    ensures text { IfOk result (λ p. text ≡ Ok p) }
-    ensures err { IfErr result (λ e. e ≡ OutOfMemory.InDoing) }
-{
-    match text {
-        Ok(printed) => Ok(printed),
-        Err(_) => Err(OutOfMemory::InDoing),
-    }
-}
-
-/// The text of a command's one line, for which memory may have run out.
-pub fn in_line(text: Result<Printed, AllocError>) -> Result<Printed, OutOfMemory>
-    ensures text { IfOk result (λ p. text ≡ Ok p) }
-    ensures err { IfErr result (λ e. e ≡ OutOfMemory.InLine) }
-{
-    match text {
-        Ok(printed) => Ok(printed),
-        Err(_) => Err(OutOfMemory::InLine),
-    }
+    let Ok(()) = printed.put_line(&l, f) else {
+        return Err(OutOfMemory::InLine);
+    };
+    Ok(())
 }

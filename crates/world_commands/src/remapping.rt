@@ -18,7 +18,7 @@ ghost use Rattle.world_commands.specs.Broken.{AreHostsOf, pair_text, pairs_text}
 ghost use Rattle.world_commands.specs.Cut.{IsLeft};
 ghost use Rattle.world_commands.specs.Done.{IsDone};
 
-use crate::out_of_memory::{OutOfMemory, in_lines, one_line};
+use crate::out_of_memory::{OutOfMemory, one_line};
 use fab_remap::PlugRefusal;
 use fab_report::{Printed, print_line_onto};
 use fab_world::World;
@@ -27,14 +27,14 @@ use run_defs::{Line, PlugWords};
 use std::alloc::{AllocError, Global};
 
 /// Pulls the cable at a port, where it has one. Where memory runs out, all of it was done but its line.
-pub fn pull(alloc: Global, w: &mut World, at: End) -> Result<Printed, OutOfMemory>
+pub fn pull(alloc: Global, w: &mut World, at: End, printed: &mut Printed) -> Result<(), OutOfMemory>
     requires { IsEnd (fabric_of w.old) at }
-    ensures done { IfOk result (λ p. IsDone (Pull at) w.old w.new p) }
+    ensures done { OnOk result (IsDone (Pull at) w.old w.new printed.new) }
     ensures err { IfErr result (λ e. IsLeft (Pull at) w.old w.new e) }
     ensures cables { IsLater w.old.links.cables w.new.links.cables }
 {
     let done = pulled(alloc, w, at);
-    one_line(alloc, Line::Pull { at, done }, w.fabric())
+    one_line(printed, Line::Pull { at, done }, w.fabric())
 }
 
 // Pulls the cable at a port: whether it had one.
@@ -46,17 +46,23 @@ fn pulled(alloc: Global, w: &mut World, at: End) -> bool
 
 /// Joins two ports, unless that is refused. Where memory runs out, nothing was done and it isn't refused, or all of it
 /// was done but its line.
-pub fn plug(alloc: Global, w: &mut World, a: End, b: End) -> Result<Printed, OutOfMemory>
+pub fn plug(
+    alloc: Global,
+    w: &mut World,
+    a: End,
+    b: End,
+    printed: &mut Printed,
+) -> Result<(), OutOfMemory>
     requires first { IsEnd (fabric_of w.old) a }
     requires second { IsEnd (fabric_of w.old) b }
-    ensures done { IfOk result (λ p. IsDone (Plug a b) w.old w.new p) }
+    ensures done { OnOk result (IsDone (Plug a b) w.old w.new printed.new) }
     ensures err { IfErr result (λ e. IsLeft (Plug a b) w.old w.new e) }
     ensures cables { IsLater w.old.links.cables w.new.links.cables }
 {
     let Ok(words) = joined(alloc, w, a, b) else {
         return Err(OutOfMemory::InDoing);
     };
-    one_line(alloc, Line::Plug { a, b, words }, w.fabric())
+    one_line(printed, Line::Plug { a, b, words }, w.fabric())
 }
 
 // Joins two ports: whether they were joined, or why they weren't. Where memory runs out, they would have been.
@@ -75,13 +81,13 @@ fn joined(alloc: Global, w: &mut World, a: End, b: End) -> Result<PlugWords, All
 }
 
 /// All hosts give up the epoch of the adopted routes. Where memory runs out, all of it was done but its line.
-pub fn revoke(alloc: Global, w: &mut World) -> Result<Printed, OutOfMemory>
-    ensures done { IfOk result (λ p. IsDone Revoke w.old w.new p) }
+pub fn revoke(alloc: Global, w: &mut World, printed: &mut Printed) -> Result<(), OutOfMemory>
+    ensures done { OnOk result (IsDone Revoke w.old w.new printed.new) }
     ensures err { IfErr result (λ e. IsLeft Revoke w.old w.new e) }
     ensures cables { IsLater w.old.links.cables w.new.links.cables }
 {
     let count = revoked(alloc, w);
-    one_line(alloc, Line::Revoked(count), w.fabric())
+    one_line(printed, Line::Revoked(count), w.fabric())
 }
 
 // All hosts give up the epoch: how many did.
@@ -95,30 +101,35 @@ fn revoked(alloc: Global, w: &mut World) -> u32
 
 /// The adopted routes that cross a cable pulled since the adoption; refused where none are adopted. Where memory runs
 /// out in a refusal's line, nothing else is missing.
-pub fn broken(alloc: Global, w: &World) -> Result<Printed, OutOfMemory>
-    ensures done { IfOk result (λ p. IsDone Broken w.now w.now p) }
+pub fn broken(alloc: Global, w: &World, printed: &mut Printed) -> Result<(), OutOfMemory>
+    ensures done { OnOk result (IsDone Broken w.now w.now printed.new) }
     ensures err { IfErr result (λ e. IsLeft Broken w.now w.now e) }
 {
     match w.adopted() {
-        Some(_set) => in_lines(broken_text(alloc, w)),
-        None => one_line(alloc, Line::NoBroken, w.fabric()),
+        Some(_set) => {
+            let Ok(()) = print_broken(alloc, w, printed) else {
+                return Err(OutOfMemory::InDoing);
+            };
+            Ok(())
+        }
+        None => one_line(printed, Line::NoBroken, w.fabric()),
     }
 }
 
 // The lines of the broken routes, and the line that ends them.
-fn broken_text(alloc: Global, w: &World) -> Result<Printed, AllocError>
-    ensures text { IfOk result (λ p. p.text ≡ pairs_text (fabric_of w.now) (broken_pairs w.now)
-        ++ line_text (fabric_of w.now) EndBroken) }
-    ensures none { IfOk result (λ p. p.figures ≡ []) }
+fn print_broken(alloc: Global, w: &World, printed: &mut Printed) -> Result<(), AllocError>
+    ensures { OnOk result (printed.new ≡ record {
+      text = pairs_text (fabric_of w.now) (broken_pairs w.now) ++ line_text (fabric_of w.now) EndBroken;
+      figures = [];
+    }) }
 {
     w.moment();
     let pairs = fab_remap::broken(alloc, w)?;
     let mut text = Vec::new(alloc);
     append_pairs(&mut text, w, pairs.list())?;
     print_line_onto(&mut text, &Line::EndBroken, w.fabric())?;
-    let mut printed = Printed::nothing(alloc);
-    printed.follow(&text)?;
-    Ok(printed)
+    printed.clear();
+    printed.follow(&text)
 }
 
 // A line for each of these pairs.

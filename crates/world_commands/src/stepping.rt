@@ -1,6 +1,6 @@
 //! A single event, in a report's words.
 
-ghost use Rattle.std.specs.Prelude.{◌≡◌, ◌∷◌, [], IfOk, IfErr, IfSome, IsTrue, OnOk};
+ghost use Rattle.std.specs.Prelude.{◌≡◌, ◌∷◌, [], IfErr, IfSome, IsTrue, OnOk};
 ghost use Rattle.net_defs.specs.Network.{has_vertex};
 ghost use Rattle.cable_history.specs.Later.{IsLater};
 ghost use Rattle.world_defs.specs.Step.{step};
@@ -27,15 +27,20 @@ use std::alloc::Global;
 /// One event, and what it did; no event where the port that the line names has no cable. Where memory runs out,
 /// nothing was done, or all but the line.
 #[tactic(auto, using(crate::proofs::Done::stepped_so, crate::proofs::Done::idle_so))]
-pub fn step(alloc: Global, w: &mut World, line: StepLine) -> Result<Printed, OutOfMemory>
+pub fn step(
+    alloc: Global,
+    w: &mut World,
+    line: StepLine,
+    printed: &mut Printed,
+) -> Result<(), OutOfMemory>
     requires { IsStepOf (fabric_of w.old) line }
-    ensures done { IfOk result (λ p. IsDone (StepCommand line) w.old w.new p) }
+    ensures done { OnOk result (IsDone (StepCommand line) w.old w.new printed.new) }
     ensures err { IfErr result (λ e. IsLeft (StepCommand line) w.old w.new e) }
     ensures cables { IsLater w.old.links.cables w.new.links.cables }
 {
     match event_of(w, line) {
-        Some(event) => event_text(alloc, w, event),
-        None => one_line(alloc, Line::Step(StepWords::Idle), w.fabric()),
+        Some(event) => event_text(alloc, w, event, printed),
+        None => one_line(printed, Line::Step(StepWords::Idle), w.fabric()),
     }
 }
 
@@ -65,9 +70,14 @@ fn event_of(w: &World, line: StepLine) -> Option<Event>
 }
 
 // An event, and the line of what it did. Where memory runs out, the event may have happened.
-fn event_text(alloc: Global, w: &mut World, event: Event) -> Result<Printed, OutOfMemory>
+fn event_text(
+    alloc: Global,
+    w: &mut World,
+    event: Event,
+    printed: &mut Printed,
+) -> Result<(), OutOfMemory>
     requires { IsGiven w.old event }
-    ensures text { IfOk result (λ p. p ≡ printed_of (fabric_of w.old)
+    ensures text { OnOk result (printed.new ≡ printed_of (fabric_of w.old)
         (OneLine (Step (words_of (step w.old event).1 (step w.old event).0)) ∷ [])) }
     ensures after { OnOk result (w.new ≡ (step w.old event).1) }
     ensures err { IfErr result (IsEventLeft event w.old w.new) }
@@ -78,7 +88,7 @@ fn event_text(alloc: Global, w: &mut World, event: Event) -> Result<Printed, Out
         return Err(OutOfMemory::InDoing);
     };
     let words = words_of(w, &effect);
-    one_line(alloc, Line::Step(words), w.fabric())
+    one_line(printed, Line::Step(words), w.fabric())
 }
 
 // An effect in a report's words.

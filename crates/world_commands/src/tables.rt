@@ -1,6 +1,6 @@
 //! What an installation prints: how many hosts have acknowledged all their parts, and each host's table.
 
-ghost use Rattle.std.specs.Prelude.{◌≡◌, ◌++◌, ◌∷◌, map, flat_map, IfOk, OnOk};
+ghost use Rattle.std.specs.Prelude.{◌≡◌, ◌++◌, ◌∷◌, map, flat_map, OnOk};
 ghost use Rattle.std.specs.List.{AllByRecursion};
 ghost use Rattle.world_defs.specs.World.{fabric_of};
 ghost use Rattle.run_defs.specs.LineText.{line_text};
@@ -22,16 +22,16 @@ pub fn print_tables(
     hosts: &[u16],
     acked: u16,
     of: u16,
-) -> Result<Printed, AllocError>
+    printed: &mut Printed,
+) -> Result<(), AllocError>
     requires hosts { AllByRecursion (IsHostOf w.now) hosts.now }
-    ensures { IfOk result (λ p. p ≡ printed_of (fabric_of w.now)
+    ensures { OnOk result (printed.new ≡ printed_of (fabric_of w.now)
         (lines (Installed acked of ∷ map (table_line w.now) hosts.now))) }
 {
-    let mut printed = Printed::of_line(alloc, Line::Installed { acked, of }, w.fabric())?;
+    printed.put_line(&Line::Installed { acked, of }, w.fabric())?;
     let mut tables = Vec::new(alloc);
     append_tables(&mut tables, w, hosts)?;
-    printed.follow(&tables)?;
-    Ok(printed)
+    printed.follow(&tables)
 }
 
 // A line for each of these hosts: whether its table is active.

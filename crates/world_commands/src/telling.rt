@@ -1,6 +1,6 @@
 //! The commands of one line that is no event's: a walk, a plan, and the end.
 
-ghost use Rattle.std.specs.Prelude.{◌≡◌, ◌≤◌, length, All, IfOk, IfErr};
+ghost use Rattle.std.specs.Prelude.{◌≡◌, ◌≤◌, length, All, IfErr, OnOk};
 ghost use Rattle.net_defs.specs.Turn.{IsTurn};
 ghost use Rattle.cable_history.specs.Later.{IsLater};
 ghost use Rattle.link_defs.specs.Links.{empty_links};
@@ -24,37 +24,38 @@ pub fn walk(
     links: &mut Links,
     host: u16,
     turns: &[i8],
-) -> Result<Printed, OutOfMemory>
+    printed: &mut Printed,
+) -> Result<(), OutOfMemory>
     requires short { length turns.now ≤ 64 }
     requires turns { All IsTurn turns.now }
     requires empty { links.old ≡ empty_links (fabric_of w.now) }
-    ensures done { IfOk result (λ p. IsDone (Walk host turns.now) w.now w.now p) }
+    ensures done { OnOk result (IsDone (Walk host turns.now) w.now w.now printed.new) }
     ensures err { IfErr result (λ e. IsLeft (Walk host turns.now) w.now w.now e) }
     ensures links { links.new ≡ links.old }
 {
     let Ok(end) = walk_alone(alloc, links, host, turns) else {
         return Err(OutOfMemory::InDoing);
     };
-    one_line(alloc, Line::Walk(end), w.fabric())
+    one_line(printed, Line::Walk(end), w.fabric())
 }
 
 /// Plans a fault for the injection so far ahead. Where memory runs out, nothing was done, or all but the line.
 #[tactic(auto, using(crate::proofs::Done::planned_so))]
 pub fn plan(
-    alloc: Global,
     w: &mut World,
     ahead: u64,
     kind: PlanKind,
-) -> Result<Printed, OutOfMemory>
+    printed: &mut Printed,
+) -> Result<(), OutOfMemory>
     requires { 1 ≤ ahead }
-    ensures done { IfOk result (λ p. IsDone (Plan ahead kind) w.old w.new p) }
+    ensures done { OnOk result (IsDone (Plan ahead kind) w.old w.new printed.new) }
     ensures err { IfErr result (λ e. IsLeft (Plan ahead kind) w.old w.new e) }
     ensures cables { IsLater w.old.links.cables w.new.links.cables }
 {
     let Ok(number) = w.plan(ahead, fault_of(kind)) else {
         return Err(OutOfMemory::InDoing);
     };
-    one_line(alloc, Line::PlanAt(number), w.fabric())
+    one_line(printed, Line::PlanAt(number), w.fabric())
 }
 
 // The fault that a line of a plan means.
@@ -72,13 +73,13 @@ fn fault_of(kind: PlanKind) -> Fault
 
 /// The injections and the drops of the whole run.
 #[tactic(auto, using(crate::proofs::Done::finished))]
-pub fn finish(alloc: Global, w: &World) -> Result<Printed, OutOfMemory>
-    ensures done { IfOk result (λ p. IsDone Finish w.now w.now p) }
+pub fn finish(w: &World, printed: &mut Printed) -> Result<(), OutOfMemory>
+    ensures done { OnOk result (IsDone Finish w.now w.now printed.new) }
     ensures err { IfErr result (λ e. IsLeft Finish w.now w.now e) }
 {
     let line = Line::Finish {
         injected: w.injected(),
         dropped: w.dropped(),
     };
-    one_line(alloc, line, w.fabric())
+    one_line(printed, line, w.fabric())
 }

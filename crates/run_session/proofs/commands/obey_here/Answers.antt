@@ -1,4 +1,5 @@
 use Rattle.std.proofs.Common.{◌≡◌, Option, OnErr, refl, sym, ap, subst}
+use Rattle.std.proofs.lemmas.Result.{on_ok_weaker}
 use Rattle.std.specs.Prelude.{IfErr}
 use Rattle.world_defs.specs.World.{WorldState}
 use Rattle.run_defs.specs.Outcome.{outcome}
@@ -7,12 +8,11 @@ use Rattle.run_defs.specs.Session.{SessionState, LastMap, LastRoutes}
 use Rattle.promise_laws.specs.CutShort.{IsCutShort}
 use Rattle.promise_laws.proofs.CutShort.{cut_unchanged, cut_settled, cut_installed}
 use Rattle.world_commands.specs.Cut.{HidesNoRefusal, IsLeft}
-use Rattle.world_commands.specs.Done.{IsDone, session_of}
-use Rattle.world_commands.proofs.Answered.{if-ok, if-err, if-err-on}
+use Rattle.world_commands.specs.Done.{session_of}
+use Rattle.world_commands.proofs.Answered.{if-err, if-err-on}
 use Rattle.world_commands.proofs.Cut.{in-doing, in-line}
 use Rattle.world_commands.proofs.Done.{one-event}
 use Rattle.world_drain.proofs.Later.{on-any, on-err}
-use Rattle.run_session.specs.Obeyed.{IsObeyed}
 use Rattle.run_session.proofs.Cutting.{cut_one}
 use Rattle.run_session.proofs.Going.{goes-later}
 use Rattle.run_session.proofs.Leaving.{none-unrefused, one-unrefused, busy-missing}
@@ -120,8 +120,7 @@ returns-in_default c =
     let made = c.args.last_map.now in
     let found = c.args.last_routes.now in
     record {
-      obeyed = if-ok c.do_one.result (λ p. IsDone c.args.c.now w v p) (λ p. IsObeyed (session_of w made found) c.args.c.now (session_of v made found) p)
-          (λ p done. done_so c.args.c.now c.args.c.now w v made found p done refl) c.do_one.ensures.done;
+      obeyed = on_ok_weaker c.do_one.result (λ done. done_so c.args.c.now c.args.c.now w v made found c.do_one.new.printed done refl) c.do_one.ensures.done;
       routes = c.requires.routes;
       links = c.requires.links;
       cables = goes-later w v c.do_one.ensures.cables;

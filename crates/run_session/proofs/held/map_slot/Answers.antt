@@ -1,4 +1,4 @@
-use Rattle.std.proofs.Common.{◌≡◌, ◌∙◌, Option, Some, IfOk, OnErr, sym, ap, subst}
+use Rattle.std.proofs.Common.{◌≡◌, ◌∙◌, Option, Some, OnOk, OnErr, sym, ap, subst}
 use Rattle.world_defs.specs.World.{WorldState}
 use Rattle.run_defs.specs.Session.{LastRoutes}
 use Rattle.promise_laws.specs.CutShort.{IsCutShort}
@@ -22,8 +22,9 @@ returns-clause-obeyed c =
     let before : c.in-Some.world ≡ world_in c.args.slot.now = cc (c.requires.there) in
     let after : c.map-world.result.0 ≡ world_in c.replace.new.self = sym (ap world_in c.replace.ensures.after) in
     let made = c.map-world.new.last_map in
-    subst (λ (v : WorldState). IfOk c.map-world.result.1 (λ p. (found : Option LastRoutes) → IsObeyed (session_of (world_in c.args.slot.now) c.args.last_map.now found) (map_of c.args.order) (session_of v made found) p)) after
-    (subst (λ (w : WorldState). IfOk c.map-world.result.1 (λ p. (found : Option LastRoutes) → IsObeyed (session_of w c.args.last_map.now found) (map_of c.args.order) (session_of c.map-world.result.0 made found) p)) before
+    let p = c.map-world.new.printed in
+    subst (λ (v : WorldState). OnOk c.map-world.result.1 ((found : Option LastRoutes) → IsObeyed (session_of (world_in c.args.slot.now) c.args.last_map.now found) (map_of c.args.order) (session_of v made found) p)) after
+    (subst (λ (w : WorldState). OnOk c.map-world.result.1 ((found : Option LastRoutes) → IsObeyed (session_of w c.args.last_map.now found) (map_of c.args.order) (session_of c.map-world.result.0 made found) p)) before
     c.map-world.ensures.obeyed)
 
 pub returns-clause-kept : goal.returns-clause-kept

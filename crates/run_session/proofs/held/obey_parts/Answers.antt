@@ -1,4 +1,4 @@
-use Rattle.std.proofs.Common.{◌≡◌, ◌∙◌, Option, IfOk, OnErr, sym, ap, subst}
+use Rattle.std.proofs.Common.{◌≡◌, ◌∙◌, Option, OnOk, OnErr, sym, ap, subst}
 use Rattle.std.specs.Prelude.{IfErr}
 use Rattle.link_defs.specs.Links.{is_idle}
 use Rattle.world_defs.specs.World.{WorldState}
@@ -61,7 +61,7 @@ pub returns-in-None-clause-obeyed : goal.returns-in-None-clause-obeyed
 returns-in-None-clause-obeyed c =
     let there : world_in c.args.slot.now ≡ c.in-Some.world = cc (c.requires.there) in
     let after : SessionState = session_of c.obey_here.new.w c.args.last_map.now c.obey_here.new.last_routes in
-    subst (λ (w : WorldState). IfOk c.obey_here.result (λ p. IsObeyed (session_of w c.args.last_map.now c.args.last_routes.now) c.args.c.now after p)) (sym there) c.obey_here.ensures.obeyed
+    subst (λ (w : WorldState). OnOk c.obey_here.result (IsObeyed (session_of w c.args.last_map.now c.args.last_routes.now) c.args.c.now after c.obey_here.new.printed)) (sym there) c.obey_here.ensures.obeyed
 
 pub returns-in-None-clause-cables : goal.returns-in-None-clause-cables
 returns-in-None-clause-cables c =

@@ -1,8 +1,7 @@
-use Rattle.std.proofs.Common.{◌≡◌, ◌∙◌, ◌<◌, ℕ, Some, refl, subst, sym}
+use Rattle.std.proofs.Common.{◌≡◌, ◌∙◌, ◌<◌, ℕ, subst, sym}
 use Rattle.std.specs.List.{AllByRecursion}
 use Rattle.world_defs.specs.World.{WorldState, fabric_of}
 use Rattle.fab_world.specs.Events.{IsHostOf}
-use Rattle.run_defs.specs.Outcome.{install}
 use Rattle.run_defs.specs.Session.{LastRoutes}
 use Rattle.route_making.specs.Kept.{AreKeptRoutes}
 use Rattle.route_making.proofs.Adoptable.{kept-adoptable, kept-rise, kept-named}
@@ -90,7 +89,7 @@ returns-clause-told c =
     let k : LastRoutes = record { mapper = c.l.inside.mapper; hosts = c.deref.result.now; routes = c.l.inside.routes; began = c.l.inside.began } in
     let same : k ≡ c.args.l.now = (λ i. record { mapper = c.l.inside.mapper; hosts = c.deref.ensures.value i; routes = c.l.inside.routes; began = c.l.inside.began }) ∙ c.l.view_is in
     let x = c.in-Ok.installed in
-    installed-told w c.adopt_and_install.new.w k c.args.l.now c.args.tries x.acked x.of c.deref-2.result.now c.in-Ok-print_tables.text same c.requires.idle c.requires.may c.in-Ok.ensures.acked c.in-Ok.ensures.after
+    installed-told w c.adopt_and_install.new.w k c.args.l.now c.args.tries x.acked x.of c.deref-2.result.now c.print_tables.new.printed same c.requires.idle c.requires.may c.in-Ok.ensures.acked c.in-Ok.ensures.after
     c.in-Ok.ensures.cables c.in-Ok.ensures.of (c.deref-2.ensures.value ∙ sym c.deref.ensures.value) c.in-Ok-print_tables.ensures
 
 pub returns-clause-cables : goal.returns-clause-cables

@@ -1,18 +1,13 @@
-use Rattle.std.proofs.Common.{◌≡◌, ◌∷◌, [], Option, Some, true, false, refl}
-use Rattle.world_defs.specs.World.{fabric_of}
+use Rattle.std.proofs.Common.{◌≡◌, Option, Some, true, false, refl}
+use Rattle.std.proofs.lemmas.Result.{on_ok_weaker}
 use Rattle.run_defs.specs.declared.command.Command.TheVariants.{Install}
-use Rattle.run_defs.specs.declared.line.Line.TheVariants.{InstallRefused}
 use Rattle.run_defs.specs.Outcome.{install, may_install, refusal_cause}
-use Rattle.run_defs.specs.Output.{OneLine}
 use Rattle.run_defs.specs.Session.{LastMap}
-use Rattle.fab_report.specs.Printed.{printed_of}
 use Rattle.promise_laws.proofs.CutShort.{part-none}
 use Rattle.world_drain.proofs.Later.{on-any}
 use Rattle.world_commands.specs.Cut.{HidesNoRefusal}
 use Rattle.world_commands.specs.Done.{session_of}
-use Rattle.world_commands.proofs.Answered.{if-ok}
 use Rattle.world_commands.proofs.Cut.{in-doing, in-line}
-use Rattle.run_session.specs.Told.{IsInstallTold}
 use Rattle.run_session.proofs.Installs.{why-not, why-none, refused_told}
 use Rattle.run_session.proofs.Leaving.{refused-missing, install-unrefused}
 use Rattle.run_session.proofs.installing.install_idle.Goals as goal
@@ -24,8 +19,8 @@ pub returns-in-Some-clause-told : goal.returns-in-Some-clause-told
 returns-in-Some-clause-told c =
     let w = c.args.w.now in
     let l = c.args.l.now in
-    if-ok c.refused_text.result (λ p. p ≡ printed_of (fabric_of w) (OneLine (InstallRefused c.in-Some.cause) ∷ [])) (λ p. IsInstallTold w (Some l) c.args.tries w p)
-    (λ p e. refused_told w l c.args.tries c.in-Some.cause c.install_refused.result p c.requires.idle c.install_refused.ensures c.in-Some.is e) c.refused_text.ensures.text
+    on_ok_weaker c.refused_text.result
+    (refused_told w l c.args.tries c.in-Some.cause c.install_refused.result c.refused_text.new.printed c.requires.idle c.install_refused.ensures c.in-Some.is) c.refused_text.ensures.text
 
 pub returns-in-Some-clause-err : goal.returns-in-Some-clause-err
 returns-in-Some-clause-err c = on-any c.refused_text.result (part-none c.args.w.now c.args.w.now (install c.args.w.now c.args.tries (Some c.args.l.now)).acts refl)

@@ -1,16 +1,11 @@
 use Rattle.std.proofs.Common.{◌≡◌, ◌∙◌, sym, ap, subst, arith}
-use Rattle.std.specs.Prelude.{Option, Some}
+use Rattle.std.specs.Prelude.{Some}
 use Rattle.net_defs.specs.Network.{Network}
 use Rattle.cable_history.specs.History.{fabric_at}
-use Rattle.run_defs.specs.Session.{LastRoutes}
 use Rattle.world_defs.specs.World.{fabric_of}
-use Rattle.fab_report.specs.Printed.{printed_of}
-use Rattle.world_commands.specs.Done.{session_of}
 use Rattle.map_making.specs.Lines.{map_lines}
-use Rattle.run_session.proofs.Answered.{if-ok-on}
+use Rattle.run_session.proofs.Answered.{on-ok-both}
 use Rattle.run_session.specs.Kept.{IsKeptMap}
-use Rattle.run_session.specs.Obeyed.{IsObeyed}
-use Rattle.run_session.specs.Told.{map_of}
 use Rattle.run_session.proofs.Going.{stood-before, printed-on, of-fabric, host-stays, last-over}
 use Rattle.run_session.proofs.Keeping.{kept-made}
 use Rattle.world_drain.proofs.Later.{on-any}
@@ -18,22 +13,22 @@ use Rattle.run_session.proofs.Cutting.{cut_made, cut_begun}
 use Rattle.run_session.proofs.Obeying.{mapped_so}
 use Rattle.run_session.proofs.mapping.map.Goals as goal
 
-pub keep_map-text-requires-clause-there : goal.keep_map-text-requires-clause-there
-keep_map-text-requires-clause-there c = host-stays c.args.world c.map_world-world.result.0 c.args.order.host c.map_world-world.ensures.cables c.requires.order.0
+pub keep_map-kept-requires-clause-there : goal.keep_map-kept-requires-clause-there
+keep_map-kept-requires-clause-there c = host-stays c.args.world c.map_world-world.result.0 c.args.order.host c.map_world-world.ensures.cables c.requires.order.0
 
-pub keep_map-text-requires-clause-hosts : goal.keep_map-text-requires-clause-hosts
-keep_map-text-requires-clause-hosts c =
+pub keep_map-kept-requires-clause-hosts : goal.keep_map-kept-requires-clause-hosts
+keep_map-kept-requires-clause-hosts c =
     let hosts = rw c.in-Ok.is at c.map_world-world.ensures.of_fabric in
     of-fabric (fabric_of c.args.world) (fabric_of c.map_world-world.result.0) c.in-Ok.mapping.made.map (sym c.map_world-world.ensures.cables.vertices.0) hosts
 
-pub keep_map-text-requires-clause-past : goal.keep_map-text-requires-clause-past
-keep_map-text-requires-clause-past c =
+pub keep_map-kept-requires-clause-past : goal.keep_map-kept-requires-clause-past
+keep_map-kept-requires-clause-past c =
     let began = rw c.in-Ok.is at c.map_world-world.ensures.began in
     let on = c.map_world-world.ensures.cables.changes in
     omega (arith, began, on)
 
-pub keep_map-text-requires-clause-right : goal.keep_map-text-requires-clause-right
-keep_map-text-requires-clause-right c = λ says.
+pub keep_map-kept-requires-clause-right : goal.keep_map-kept-requires-clause-right
+keep_map-kept-requires-clause-right c = λ says.
     let before = c.args.world in
     let after = c.map_world-world.result.0 in
     let made = c.in-Ok.mapping.made in
@@ -45,8 +40,8 @@ keep_map-text-requires-clause-right c = λ says.
     subst (λ (n : Network). IsKeptMap n c.args.order.host made.map) (sym stood)
     (kept-made c.args.order before after made c.in-Ok.mapping.packets c.moment.ensures.kept c.requires.idle order.0 order.1.1 over hosts says)
 
-pub keep_map-text-requires-clause-kept : goal.keep_map-text-requires-clause-kept
-keep_map-text-requires-clause-kept c = last-over c.args.world c.map_world-world.result.0 c.args.last_map.now c.map_world-world.ensures.cables c.requires.kept
+pub keep_map-kept-requires-clause-kept : goal.keep_map-kept-requires-clause-kept
+keep_map-kept-requires-clause-kept c = last-over c.args.world c.map_world-world.result.0 c.args.last_map.now c.map_world-world.ensures.cables c.requires.kept
 
 pub returns-in-Ok-clause-obeyed : goal.returns-in-Ok-clause-obeyed
 returns-in-Ok-clause-obeyed c =
@@ -57,14 +52,11 @@ returns-in-Ok-clause-obeyed c =
     let over = rw c.in-Ok.is at c.map_world-world.ensures.mapped in
     let began : c.in-Ok.mapping.began ≡ before.links.cables.changes = rw c.in-Ok.is at c.map_world-world.ensures.began in
     let told = map_lines c.args.order.host made packets in
-    if-ok-on c.keep_map-text.result
-    (λ p. p ≡ printed_of (fabric_of after) told)
-    _
-    (λ p. (found : Option LastRoutes) → IsObeyed (session_of before c.args.last_map.now found) (map_of c.args.order) (session_of after c.keep_map-text.new.last_map found) p)
-    (λ p e now. mapped_so before after c.args.order made packets c.args.last_map.now c.keep_map-text.new.last_map p c.requires.idle over
+    on-ok-both c.keep_map-kept.result
+    (λ e now. mapped_so before after c.args.order made packets c.args.last_map.now c.keep_map-kept.new.last_map c.keep_map-kept.new.printed c.requires.idle over
     (now ∙ ap (λ k. Some (record { mapper = c.args.order.host; words = made.words; made = made.map; began = k })) began)
     (e ∙ printed-on before after told c.map_world-world.ensures.cables))
-    c.keep_map-text.ensures.text c.keep_map-text.ensures.last
+    c.keep_map-kept.ensures.text c.keep_map-kept.ensures.last
 
 pub returns-in-Err-clause-kept : goal.returns-in-Err-clause-kept
 returns-in-Err-clause-kept c = last-over c.args.world c.map_world-world.result.0 c.args.last_map.now c.map_world-world.ensures.cables c.requires.kept
@@ -72,7 +64,7 @@ returns-in-Err-clause-kept c = last-over c.args.world c.map_world-world.result.0
 pub returns-in-Ok-clause-cut : goal.returns-in-Ok-clause-cut
 returns-in-Ok-clause-cut c =
     let over = rw c.in-Ok.is at c.map_world-world.ensures.mapped in
-    on-any c.keep_map-text.result (cut_made c.args.world c.map_world-world.result.0 c.args.last_map.now c.args.order c.in-Ok.mapping.made c.in-Ok.mapping.packets c.requires.idle over)
+    on-any c.keep_map-kept.result (cut_made c.args.world c.map_world-world.result.0 c.args.last_map.now c.args.order c.in-Ok.mapping.made c.in-Ok.mapping.packets c.requires.idle over)
 
 pub returns-in-Err-clause-cut : goal.returns-in-Err-clause-cut
 returns-in-Err-clause-cut c =

@@ -1,14 +1,13 @@
 use Rattle.std.proofs.Common.{◌≡◌, ◌∷◌, [], List, true, ◌∙◌, sym, ap, subst}
+use Rattle.std.proofs.lemmas.Result.{on_ok_weaker}
 use Rattle.net_defs.specs.Network.{Network, has_vertex}
 use Rattle.world_defs.specs.declared.event.Event.TheVariants.{Plug as PlugEvent}
-use Rattle.world_defs.specs.World.{WorldState, fabric_of}
+use Rattle.world_defs.specs.World.{WorldState}
 use Rattle.run_defs.specs.declared.command.Command.TheVariants.{Plug}
 use Rattle.run_defs.specs.declared.line.Line.TheVariants.{Plug as PlugLine}
 use Rattle.run_defs.specs.Output.{Piece, OneLine}
 use Rattle.fab_report.specs.Printed.{printed_of}
 use Rattle.world_commands.specs.Cut.{IsLeft}
-use Rattle.world_commands.specs.Done.{IsDone}
-use Rattle.world_commands.proofs.Answered.{if-ok}
 use Rattle.world_commands.proofs.Cabled.{after-later, same-later, end-stays, plugged_so, plugged_left, plug_left}
 use Rattle.world_commands.proofs.Cut.{in-line}
 use Rattle.world_commands.proofs.Later.{printed-before}
@@ -38,10 +37,8 @@ returns-clause-done c =
     let v : WorldState = c.joined.new.w in
     let out : List Piece = OneLine (PlugLine c.args.a c.args.b c.in-Ok.words) ∷ [] in
     let later = after-later w v (PlugEvent c.args.a c.args.b) c.in-Ok.ensures.after in
-    if-ok c.one_line.result
-    (λ told. told ≡ printed_of c.fabric.result.now out)
-    (λ told. IsDone (Plug c.args.a c.args.b) w v told)
-    (λ told e. plugged_so w v c.args.a c.args.b c.in-Ok.words told c.in-Ok.ensures.after c.in-Ok.ensures.words (e ∙ ap (λ n. printed_of n out) c.fabric.ensures ∙ printed-before w v later out))
+    on_ok_weaker c.one_line.result
+    (λ e. plugged_so w v c.args.a c.args.b c.in-Ok.words c.one_line.new.printed c.in-Ok.ensures.after c.in-Ok.ensures.words (e ∙ ap (λ n. printed_of n out) c.fabric.ensures ∙ printed-before w v later out))
     c.one_line.ensures.printed
 
 pub returns-clause-err : goal.returns-clause-err

@@ -1,12 +1,11 @@
-use Rattle.std.proofs.Common.{◌≡◌, ◌∷◌, [], List, ◌∙◌, ap}
-use Rattle.world_defs.specs.World.{WorldState, fabric_of}
+use Rattle.std.proofs.Common.{◌∷◌, [], List, ◌∙◌, ap}
+use Rattle.std.proofs.lemmas.Result.{on_ok_weaker}
+use Rattle.world_defs.specs.World.{WorldState}
 use Rattle.run_defs.specs.declared.command.Command.TheVariants.{Revoke}
 use Rattle.run_defs.specs.declared.line.Line.TheVariants.{Revoked}
 use Rattle.run_defs.specs.Output.{Piece, OneLine}
 use Rattle.fab_report.specs.Printed.{printed_of}
 use Rattle.world_commands.specs.Cut.{IsLeft}
-use Rattle.world_commands.specs.Done.{IsDone}
-use Rattle.world_commands.proofs.Answered.{if-ok}
 use Rattle.world_commands.proofs.Cabled.{same-later, revoked_so, revoked_left}
 use Rattle.world_commands.proofs.Cut.{in-line}
 use Rattle.world_commands.proofs.Later.{printed-before}
@@ -17,10 +16,8 @@ returns-clause-done c =
     let w : WorldState = c.args.w.now in
     let v : WorldState = c.revoked-count.new.w in
     let out : List Piece = OneLine (Revoked c.revoked-count.result) ∷ [] in
-    if-ok c.one_line.result
-    (λ told. told ≡ printed_of c.fabric.result.now out)
-    (λ told. IsDone Revoke w v told)
-    (λ told e. revoked_so w v c.revoked-count.result told c.revoked-count.ensures.after c.revoked-count.ensures.count
+    on_ok_weaker c.one_line.result
+    (λ e. revoked_so w v c.revoked-count.result c.one_line.new.printed c.revoked-count.ensures.after c.revoked-count.ensures.count
     (e ∙ ap (λ n. printed_of n out) c.fabric.ensures ∙ printed-before w v (same-later w v c.revoked-count.ensures.cables) out))
     c.one_line.ensures.printed
 

@@ -1,4 +1,5 @@
-use Rattle.std.proofs.Common.{◌≡◌, ◌∷◌, ◌∙◌, [], ap, sym, subst}
+use Rattle.std.proofs.Common.{◌∷◌, ◌∙◌, [], ap, sym, subst}
+use Rattle.std.proofs.lemmas.Result.{on_ok_weaker}
 use Rattle.net_defs.specs.Network.{Network}
 use Rattle.net_defs.specs.Route.{place, IsPlaceOf}
 use Rattle.world_defs.specs.World.{WorldState, fabric_of}
@@ -7,8 +8,6 @@ use Rattle.run_defs.specs.declared.line.Line.TheVariants.{Walk as WalkLine}
 use Rattle.run_defs.specs.Output.{OneLine}
 use Rattle.fab_report.specs.Printed.{printed_of}
 use Rattle.world_commands.specs.Cut.{IsLeft}
-use Rattle.world_commands.specs.Done.{IsDone}
-use Rattle.world_commands.proofs.Answered.{if-ok}
 use Rattle.world_commands.proofs.Cut.{in-line, walk_left, walked_left}
 use Rattle.world_commands.proofs.Done.{walked}
 use Rattle.world_commands.proofs.Walks.{bare-empty, now-empty}
@@ -26,10 +25,8 @@ pub returns-clause-done : goal.returns-clause-done
 returns-clause-done c =
     let w : WorldState = c.args.w.now in
     let now = now-empty c.args.links.now (fabric_of w) c.requires.empty in
-    if-ok c.one_line.result
-    (λ p. p ≡ printed_of c.fabric.result.now (OneLine (WalkLine c.in-Ok.end) ∷ []))
-    (λ p. IsDone (Walk c.args.host c.args.turns.now) w w p)
-    (λ p e. walked w c.args.host c.args.turns.now p
+    on_ok_weaker c.one_line.result
+    (λ e. walked w c.args.host c.args.turns.now c.one_line.new.printed
     (e ∙ ap (λ n. printed_of n (OneLine (WalkLine c.in-Ok.end) ∷ [])) c.fabric.ensures
     ∙ ap (λ x. printed_of (fabric_of w) (OneLine (WalkLine x) ∷ [])) (c.in-Ok.ensures.place ∙ ap (λ (n : Network). place n c.args.host c.args.turns.now) now)))
     c.one_line.ensures.printed

@@ -1,11 +1,12 @@
-use Rattle.std.proofs.Common.{IfOk, OnErr, subst}
+use Rattle.std.proofs.Common.{OnOk, OnErr, subst}
+use Rattle.std.proofs.lemmas.Result.{on_ok_weaker}
 use Rattle.std.specs.Prelude.{IfErr}
 use Rattle.run_defs.specs.Duos.{beside}
 use Rattle.run_defs.specs.Session.{SessionState}
 use Rattle.promise_laws.specs.CutShort.{IsCutShort}
 use Rattle.world_commands.specs.Cut.{HidesNoRefusal}
 use Rattle.world_commands.specs.Done.{session_of}
-use Rattle.world_commands.proofs.Answered.{if-ok, if-err}
+use Rattle.world_commands.proofs.Answered.{if-err}
 use Rattle.world_drain.proofs.Later.{on-err}
 use Rattle.run_session.specs.Holding.{world_in}
 use Rattle.run_session.specs.Kept.{GoesOn}
@@ -19,9 +20,9 @@ returns-clause-obeyed c =
     let s : SessionState = session_of (world_in c.self.inside.world) c.self.inside.last_map c.self.inside.last_routes in
     let next : SessionState = session_of (world_in c.obey_parts.new.slot) c.obey_parts.new.last_map c.obey_parts.new.last_routes in
     let hosts = c.self.inside.duo in
-    subst (λ (x : SessionState). IfOk c.obey_parts.result (λ p. IsObeyed x c.args.c.now (beside next hosts) p)) c.self.view_is
-    (if-ok c.obey_parts.result (λ p. IsObeyed s c.args.c.now next p) (λ p. IsObeyed (beside s hosts) c.args.c.now (beside next hosts) p)
-    (λ p is. beside_obeyed s next c.args.c.now p hosts c.requires.other is) c.obey_parts.ensures.obeyed)
+    let p = c.obey_parts.new.printed in
+    subst (λ (x : SessionState). OnOk c.obey_parts.result (IsObeyed x c.args.c.now (beside next hosts) p)) c.self.view_is
+    (on_ok_weaker c.obey_parts.result (beside_obeyed s next c.args.c.now p hosts c.requires.other) c.obey_parts.ensures.obeyed)
 
 pub returns-clause-unrefused : goal.returns-clause-unrefused
 returns-clause-unrefused c =
