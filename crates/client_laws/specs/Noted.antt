@@ -63,16 +63,23 @@ sent_by_lane w h lane = sent_on w (sends_on h lane)
 abbrev pub whole_by_lane : WorldState → ℕ → ℕ → ℕ
 whole_by_lane w h lane = whole_below (sent_on w (sends_on h lane)) (sender_on w (sends_on h lane)).base
 
--- each sent event that waits at an open port is of the message that its token was last sent with
-abbrev pub SentEventsAreOfTokens : Type 0
-SentEventsAreOfTokens =
-    (n : Network) (w : WorldState) (is : IsReached n w) (h port place : ℕ) (p : PortState) (t : ℕ) (buffer : List ℕ)
+-- after these acts each sent event that waits at an open port is of the message that its token was last sent with
+abbrev pub SentEventsAreOf : Network → WorldState → List Act → Type 0
+SentEventsAreOf n w acts =
+    (h port place : ℕ) (p : PortState) (t : ℕ) (buffer : List ℕ)
     → port_at (node_at w h) port ≡ Some p → slice_get p.events place ≡ Some (Sent t buffer)
-    → IsOfToken (sent_by_lane w h) (whole_by_lane w h) port buffer (noted_in h port t (new_world n) is.acts None)
+    → IsOfToken (sent_by_lane w h) (whole_by_lane w h) port buffer (noted_in h port t (new_world n) acts None)
 
--- and so is each token that a poll answers as sent
-abbrev pub PolledTokensAreOfMessages : Type 0
-PolledTokensAreOfMessages =
-    (n : Network) (w : WorldState) (is : IsReached n w) (h port t : ℕ) → (step w (Poll h port)).0 ≡ Says (SaidSent t)
+-- and so is each token that a poll answers as sent then
+abbrev pub PolledTokensAreOf : Network → WorldState → List Act → Type 0
+PolledTokensAreOf n w acts =
+    (h port t : ℕ) → (step w (Poll h port)).0 ≡ Says (SaidSent t)
     → (buffer : List ℕ)
-    × IsOfToken (sent_by_lane w h) (whole_by_lane w h) port buffer (noted_in h port t (new_world n) is.acts None)
+    × IsOfToken (sent_by_lane w h) (whole_by_lane w h) port buffer (noted_in h port t (new_world n) acts None)
+
+-- so it is in every reached world, after the acts that led to it
+abbrev pub SentEventsAreOfTokens : Type 0
+SentEventsAreOfTokens = (n : Network) (w : WorldState) (is : IsReached n w) → SentEventsAreOf n w is.acts
+
+abbrev pub PolledTokensAreOfMessages : Type 0
+PolledTokensAreOfMessages = (n : Network) (w : WorldState) (is : IsReached n w) → PolledTokensAreOf n w is.acts

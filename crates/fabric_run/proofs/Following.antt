@@ -1,8 +1,10 @@
 -- What follows from the promise of a text.
-use Rattle.std.proofs.Common.{◌<◌, suc, List, [], ◌∷◌, ◌++◌, take, refl, sym, subst, arith}
+use Rattle.std.proofs.Common.{◌<◌, suc, List, [], ◌∷◌, ◌++◌, take, refl, sym, ap, ◌∙◌, subst, arith}
 use Rattle.world_defs.specs.World.{WorldState, last_count}
 use Rattle.world_defs.specs.Sound.{IsSound}
-use Rattle.world_defs.specs.Acts.{acted_all, MayActAll}
+use Rattle.world_defs.specs.Acts.{Act, acted_all, MayActAll}
+use Rattle.client_laws.specs.Seen.{PollsAreFrontOfSends}
+use Rattle.client_laws.specs.Noted.{SentEventsAreOf, PolledTokensAreOf}
 use Rattle.run_defs.specs.declared.command.Command.{Command}
 use Rattle.run_defs.specs.declared.command.Command.TheVariants.{Map, Install, Settle}
 use Rattle.run_defs.specs.declared.line.Line.TheVariants.{Map as MapLine, Installed, Settle as SettleLine}
@@ -14,9 +16,11 @@ use Rattle.run_defs.specs.Run.{Does, IsRun}
 use Rattle.run_laws.proofs.RunsOnce.{runs-more}
 use Rattle.promise_laws.specs.CutShort.{IsCutShort}
 use Rattle.promise_laws.specs.CutShort.IsCutShort.{undone, part_done}
-use Rattle.promise_laws.proofs.Acting.{acts_reach}
+use Rattle.promise_laws.specs.CommandActs.{acts_of, IsReachedBy}
+use Rattle.promise_laws.proofs.Acting.{acts_reach, may-prefix, reached-further}
+use Rattle.promise_laws.proofs.RunActs.{acts_of_runs_are_one}
 use Rattle.input_texts.specs.Reading.{AcceptedText}
-use Rattle.fabric_run.specs.Following.{HasSoundMoments, HasMetFaults}
+use Rattle.fabric_run.specs.Following.{HasSoundMoments, AreActsTo, HasActs, HasMetFaults}
 use Rattle.fabric_run.specs.Left.{InjectionsAreLeft}
 use Rattle.fabric_run.specs.Lines.{IsMapTold, IsSettleRight, AreLinesTrue}
 use Rattle.fabric_run.specs.Promise.{IsPromised}
@@ -26,22 +30,43 @@ use Rattle.fabric_run.proofs.Writing.{take-next}
 module _ (a : AcceptedText) (promised : IsPromised a) where
   -- a command that is cut short: its acts reach reached worlds alone
   cut-sound : (s : SessionState) (c : Command) (v : WorldState) → IsNext a s c → IsCutShort s c v → IsSound v
-  cut-sound s c v is (undone same) = subst IsSound (sym same) (promised.worlds s.world (promised.reached is.count is.printed s is.run)).sound
+  cut-sound s c v is (undone same) = subst IsSound (sym same) (promised.worlds s.world (promised.reached is.count is.printed s is.run).reached).sound
   cut-sound s c v is (part_done d of_c way) =
       let step = promised.steps s c is in
       let may : MayActAll s.world d.acts = subst (λ (x : Deed). MayActAll s.world x.acts) (sym (step.done.one d of_c)) step.acts.may in
-      let there = acts_reach a.network s.world way.done way.front.rest (promised.reached is.count is.printed s is.run) (subst (λ acts. MayActAll s.world acts) way.front.both may) in
+      let there = acts_reach a.network s.world way.done way.front.rest (promised.reached is.count is.printed s is.run).reached (subst (λ acts. MayActAll s.world acts) way.front.both may) in
       subst IsSound (sym way.there) (promised.worlds (acted_all s.world way.done) there).sound
 
   -- the moments of its run
   pub sound-moments : HasSoundMoments a
   sound-moments = record {
-    sound = λ k out last r. (promised.worlds last.world (promised.reached k out last r)).sound;
-    no_cycle = λ k out last r. (promised.worlds last.world (promised.reached k out last r)).sound.no_cycle;
+    sound = λ k out last r. (promised.worlds last.world (promised.reached k out last r).reached).sound;
+    no_cycle = λ k out last r. (promised.worlds last.world (promised.reached k out last r).reached).sound.no_cycle;
     cut = cut-sound;
     duos = λ k out last d r e.
         let is = (promised.duo.reached k out last d r e).reached in
         record { in_order = promised.duo.in_order d is; owned = promised.duo.owned d is };
+  }
+
+  -- what clients send and are handed, by the acts that led to a world
+  acts-to : (w : WorldState) (acts : List Act) → IsReachedBy a.network w acts → AreActsTo a w acts
+  acts-to w acts r = record {
+    reached = r;
+    polled = subst (PollsAreFrontOfSends a.network) r.same (promised.polled a.network w r.reached);
+    returned = subst (SentEventsAreOf a.network w) r.same (promised.returned a.network w r.reached);
+    tokens = subst (PolledTokensAreOf a.network w) r.same (promised.tokens a.network w r.reached);
+  }
+
+  -- the acts of its commands
+  pub text-acts : HasActs a
+  text-acts = record {
+    one = λ k out printed last end run again. acts_of_runs_are_one a.network (take k a.commands) out printed last end run again;
+    commands = λ k out last run. acts-to last.world (acts_of run) (promised.reached k out last run);
+    part = λ s c d done rest is of_c both.
+        let step = promised.steps s c is in
+        let may : MayActAll s.world (done ++ rest) = subst (λ acts. MayActAll s.world acts) (ap (λ (x : Deed). x.acts) (sym (step.done.one d of_c)) ∙ both) step.acts.may in
+        let there = reached-further a.network s.world (acts_of is.run) done (promised.reached is.count is.printed s is.run) (may-prefix s.world done rest may) in
+        acts-to (acted_all s.world done) (acts_of is.run ++ done) there;
   }
 
   -- what a command printed is what the promise speaks of

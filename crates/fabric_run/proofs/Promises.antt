@@ -20,7 +20,6 @@ use Rattle.run_defs.specs.Headline.{FitsFabric}
 use Rattle.fab_script.specs.Ranges.{IsCommandOf}
 use Rattle.fab_script.proofs.Ranged.{reading_ranged}
 use Rattle.run_laws.specs.Acts.{IsActOf}
-use Rattle.run_laws.proofs.Reaching.{run_is_reached}
 use Rattle.print_laws.specs.Shown.{IsPrintedAfter}
 use Rattle.print_laws.proofs.Shown.{complete_maps_are_one}
 use Rattle.message_laws.proofs.Fillings.{coming-tied}
@@ -31,6 +30,7 @@ use Rattle.promise_laws.proofs.Said.{said-command, said-act}
 use Rattle.promise_laws.specs.Existence.{HasDone, HasRun}
 use Rattle.promise_laws.proofs.Acting.{deeds_are_single_acts}
 use Rattle.promise_laws.proofs.ReceivedLines.{runs-receive_as_sent}
+use Rattle.promise_laws.proofs.RunActs.{runs_are_their_acts}
 use Rattle.promise_laws.proofs.Running.{each_command_is_done, run_exists}
 use Rattle.input_texts.specs.Reading.{AcceptedText, reading_from, reading}
 use Rattle.fabric_run.specs.Promise.{IsPromised, IsComplete}
@@ -104,7 +104,7 @@ text_promised text a e =
             lines = lines-true n (take is.count cs) is.printed s o.fabric o.named (first is.count) is.run c done.deed.output (session_after s done.deed) (says is.count c is.there) (record { deed = done.deed; is = done.is; prints = refl; leaves = refl });
           };
       one_map = λ s t host m k p q same. complete_maps_are_one n (take p.is_next.count cs) (take q.is_next.count cs) host m k o.fabric (after s host m p) (after t host k q) same;
-      reached = λ k out last r. run_is_reached n (take k cs) out last o.fabric (acts k) r;
+      reached = λ k out last r. runs_are_their_acts n (take k cs) out last o.fabric (acts k) r;
       worlds = λ w is. record { sound = reached-sound n w is; parts = coming-tied n w is };
       received = λ k out last r. runs-receive_as_sent n (take k cs) out last o.fabric (acts k) r;
       polled = polled-front;

@@ -1,14 +1,17 @@
 -- What follows from the promise of a text.
-use Rattle.std.specs.Prelude.{◌≡◌, ℕ, List, [], ◌∷◌, take, Some}
+use Rattle.std.specs.Prelude.{◌≡◌, ℕ, List, [], ◌∷◌, ◌++◌, take, Some}
 use Rattle.map_defs.specs.NetMap.{NetMap}
 use Rattle.net_defs.specs.Dependencies.{IsBefore, HasNoCycle}
 use Rattle.world_defs.specs.World.{WorldState, adopted_by}
 use Rattle.world_defs.specs.Asking.{all_given_up}
 use Rattle.world_defs.specs.Sound.{IsSound, installed_channels}
 use Rattle.world_defs.specs.Settled.{IsSettled}
+use Rattle.world_defs.specs.Acts.{Act, acted_all}
 use Rattle.duo_defs.specs.Duo.{DuoState}
 use Rattle.install_laws.specs.Cause.{EachMissedWasHarmed}
 use Rattle.message_laws.specs.Got.{IsAllGot}
+use Rattle.client_laws.specs.Seen.{PollsAreFrontOfSends}
+use Rattle.client_laws.specs.Noted.{SentEventsAreOf, PolledTokensAreOf}
 use Rattle.delivery_laws.specs.Delivery.{HasEnough, HasPaths}
 use Rattle.run_defs.specs.declared.command.Command.{Command}
 use Rattle.run_defs.specs.declared.command.Command.TheVariants.{Map, Install, Settle}
@@ -17,7 +20,9 @@ use Rattle.run_defs.specs.declared.line.MapWords.TheVariants.{Doubtful}
 use Rattle.run_defs.specs.Output.{Piece, OneLine, MapLines}
 use Rattle.run_defs.specs.Session.{SessionState, LastRoutes}
 use Rattle.run_defs.specs.Outcome.{set_of}
-use Rattle.run_defs.specs.Run.{Does, IsRun}
+use Rattle.run_defs.specs.Deed.{Deed}
+use Rattle.run_defs.specs.Run.{IsDeed, Does, IsRun}
+use Rattle.promise_laws.specs.CommandActs.{acts_of, IsReachedBy}
 use Rattle.promise_laws.specs.CutShort.{IsCutShort}
 use Rattle.promise_laws.specs.Duos.{IsDuoSound}
 use Rattle.input_texts.specs.Reading.{AcceptedText}
@@ -50,6 +55,40 @@ pub record HasSoundMoments (a : AcceptedText) : Type 0 where
   pub no_cycle : RoutesHaveNoCycle a
   pub cut : CutCommandsLeaveSound a
   pub duos : DuosAreSound a
+
+-- These acts lead to a world of a text's run. What polls among them handed out is a prefix of what sends among them were
+-- accepted with; each sent event that waits then, and each token that a poll answers as sent, is of the message that
+-- its token was last sent with.
+pub record AreActsTo (a : AcceptedText) (w : WorldState) (acts : List Act) : Type 0 where
+  pub reached : IsReachedBy a.network w acts
+  pub polled : PollsAreFrontOfSends a.network acts
+  pub returned : SentEventsAreOf a.network w acts
+  pub tokens : PolledTokensAreOf a.network w acts
+
+-- so do the acts of the first commands of a text, one command's after the other's
+abbrev pub CommandsActTo : AcceptedText → Type 0
+CommandsActTo a = (count : ℕ) (out : List Piece) (last : SessionState)
+    → (run : IsRun a.network (take count a.commands) out last) → AreActsTo a last.world (acts_of run)
+
+-- and followed by the first acts of the next command they lead to the world there
+abbrev pub FirstActsActTo : AcceptedText → Type 0
+FirstActsActTo a =
+    (s : SessionState) (c : Command) (d : Deed) (done rest : List Act) → (is : IsNext a s c) → IsDeed s c d
+    → d.acts ≡ done ++ rest → AreActsTo a (acted_all s.world done) (acts_of is.run ++ done)
+
+-- the first commands of a text have one list of acts
+abbrev pub ActsAreOne : AcceptedText → Type 0
+ActsAreOne a =
+    (count : ℕ) (out printed : List Piece) (last end : SessionState)
+    → (run : IsRun a.network (take count a.commands) out last)
+    → (again : IsRun a.network (take count a.commands) printed end) → acts_of again ≡ acts_of run
+
+-- What the promise of a text says of the acts of its run: those of its commands are one list, which leads to each world
+-- after first commands and part of the way along the next one; and what clients send and are handed follows from it.
+pub record HasActs (a : AcceptedText) : Type 0 where
+  pub one : ActsAreOne a
+  pub commands : CommandsActTo a
+  pub part : FirstActsActTo a
 
 -- a map that prints `doubtful` met a planned fault that lost, held or flipped a packet of it, or a cable went
 abbrev pub DoubtfulMapsMetFaults : AcceptedText → Type 0

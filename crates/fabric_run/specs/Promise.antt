@@ -15,7 +15,7 @@ use Rattle.print_laws.specs.Shown.{PrintsMap}
 use Rattle.message_laws.specs.Filling.{HasTiedParts}
 use Rattle.client_laws.specs.Seen.{PolledIsFrontOfAccepted}
 use Rattle.client_laws.specs.Noted.{SentEventsAreOfTokens, PolledTokensAreOfMessages}
-use Rattle.promise_laws.specs.CommandActs.{AreSingleActs}
+use Rattle.promise_laws.specs.CommandActs.{AreSingleActs, acts_of, IsReachedBy}
 use Rattle.promise_laws.specs.Existence.{HasDone, HasRun}
 use Rattle.promise_laws.specs.ReceivedLines.{AreReceivedAsSent}
 use Rattle.input_texts.specs.Reading.{AcceptedText}
@@ -48,10 +48,11 @@ CompleteMapsAreOne a =
     (s t : SessionState) (host : ℕ) (m k : NetMap) → IsComplete a s host m → IsComplete a t host k
     → fabric_of s.world ≡ fabric_of t.world → m ≡ k
 
--- after the first commands of a text the world is reached: acts that may happen lead to it from the first world
+-- after the first commands of a text the world is reached: the acts of these commands, one command's after the other's,
+-- may happen and lead to it from the first world
 abbrev pub WorldsAreReached : AcceptedText → Type 0
 WorldsAreReached a = (count : ℕ) (out : List Piece) (last : SessionState)
-    → IsRun a.network (take count a.commands) out last → IsReached a.network last.world
+    → (run : IsRun a.network (take count a.commands) out last) → IsReachedBy a.network last.world (acts_of run)
 
 -- What is promised of a world. The installed routes have no cycle; what was got is a prefix of what was sent, for each
 -- sender, receiver and priority; each token has one owner. What came of a message in part stands in one provided
@@ -73,8 +74,8 @@ ReceivedLinesAreOfSends a = (count : ℕ) (out : List Piece) (last : SessionStat
 
 -- The promise of an accepted text. Its commands have a run, and one, whose text is the report. Each command is one
 -- deed, of acts that may happen, and what its lines say is true; complete maps of one host are one while the fabric
--- stands alike. Each world after first commands, and after each prefix of the acts of the next one, is reached; each
--- world that is reached is sound. What polls handed out is a prefix of what sends were accepted with, and what the
+-- stands alike. Each world after first commands is reached by their acts, and so is each one after a prefix of the acts
+-- of the next command; each world that is reached is sound. What polls handed out is a prefix of what sends were accepted with, and what the
 -- lines `received` show, of what the `send` lines with a token handed in; a sent event that waits has the bytes of the
 -- message that was last sent with its token, and a send token that a poll answers is of that message, which is
 -- acknowledged. The two hosts that restart keep their own promise.

@@ -5,7 +5,7 @@ use Rattle.world_defs.specs.World.{WorldState, new_world}
 use Rattle.world_defs.specs.Sound.{IsSound}
 use Rattle.world_defs.specs.Acts.{Act, acted, acted_all, MayActAll, IsReached}
 use Rattle.run_laws.proofs.Reaching.{run-led, deed-may}
-use Rattle.promise_laws.specs.CommandActs.{DeedsAreSingleActs, ActsReach, RunsEndSound}
+use Rattle.promise_laws.specs.CommandActs.{DeedsAreSingleActs, ActsReach, RunsEndSound, IsReachedBy}
 use Rattle.promise_laws.proofs.OneAction.{acts_are_one_action}
 use Rattle.promise_laws.proofs.Sound.{always_sound}
 
@@ -13,7 +13,7 @@ pub acted-append : (w : WorldState) (xs ys : List Act) → acted_all w (xs ++ ys
 acted-append w [] ys = refl
 acted-append w (x ∷ xs) ys = acted-append (acted w x) xs ys
 
-may-prefix : (w : WorldState) (xs ys : List Act) → MayActAll w (xs ++ ys) → MayActAll w xs
+pub may-prefix : (w : WorldState) (xs ys : List Act) → MayActAll w (xs ++ ys) → MayActAll w xs
 may-prefix w [] ys may = tt
 may-prefix w (x ∷ xs) ys may = (may.0, may-prefix (acted w x) xs ys may.1)
 
@@ -29,6 +29,11 @@ reached-behind n w acts r may = record {
   may = may-append (new_world n) r.acts acts r.may (subst (λ v. MayActAll v acts) r.leads may);
   leads = ap (λ v. acted_all v acts) r.leads ∙ sym (acted-append (new_world n) r.acts acts);
 }
+
+-- and so do those that led there, followed by them
+pub reached-further : (n : Network) (w : WorldState) (acts more : List Act) → IsReachedBy n w acts → MayActAll w more → IsReachedBy n (acted_all w more) (acts ++ more)
+unfolding reached-behind
+reached-further n w acts more r may = record { reached = reached-behind n w more r.reached may; same = ap (λ l. l ++ more) r.same }
 
 pub acts_reach : ActsReach
 acts_reach n w prefix rest r may = reached-behind n w prefix r (may-prefix w prefix rest may)

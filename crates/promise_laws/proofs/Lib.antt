@@ -8,6 +8,7 @@ pub mod Plugs
 pub mod Pulls
 pub mod ReceivedLines
 pub mod Revoking
+pub mod RunActs
 pub mod Running
 pub mod Said
 pub mod Sound

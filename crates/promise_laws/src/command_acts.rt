@@ -2,6 +2,7 @@
 //! have the statements.
 
 ghost use Rattle.promise_laws.specs.CommandActs.{DeedsAreSingleActs, ActsReach, RunsEndSound};
+ghost use Rattle.promise_laws.specs.CommandActs.{RunsAreTheirActs, ActsOfRunsAreOne};
 ghost use Rattle.promise_laws.specs.CutShort.{BegunMapsAreCutShort, CutCommandsLeaveSound};
 ghost use Rattle.promise_laws.specs.OneAction.{ActsAreOneAction};
 
@@ -11,6 +12,13 @@ pub fn acts_of_commands()
     ensures acts { DeedsAreSingleActs }
     ensures reach { ActsReach }
     ensures ended { RunsEndSound }
+{}
+
+/// The acts of a run are those of its commands, one command's after the other's: there is one list of them, they may
+/// happen one after another, and they lead from the fabric's new world to the world after the run.
+pub fn acts_of_all_commands()
+    ensures lead { RunsAreTheirActs }
+    ensures one { ActsOfRunsAreOne }
 {}
 
 /// A map that was begun and stopped is the command cut short: a prefix of the acts of its deed was done. And a

@@ -6,7 +6,7 @@
 //! | file of `specs/` | says |
 //! |---|---|
 //! | `CableLines` | what lines `pull`, `plug`, `revoked` say: which cables came and went, who gave up an epoch |
-//! | `CommandActs` | that the acts of a command's deed may happen, each one action, and reach reached worlds |
+//! | `CommandActs` | that the acts of a command's deed may happen, each one action; those of a run lead to its last world |
 //! | `CutShort` | that a command is cut short, and a map that was begun |
 //! | `Duos` | what a command depends on, of the two hosts that restart, and what they come to in a run |
 //! | `OneAction` | whose an act is, and that it is one action, of one host, of one channel or of one cable |
@@ -27,7 +27,9 @@ mod scripts;
 mod worked;
 
 pub use cable_lines::{plug_lines, pull_lines, revoke_lines};
-pub use command_acts::{acts_of_commands, acts_of_cut_commands, acts_of_one_actor};
+pub use command_acts::{
+    acts_of_all_commands, acts_of_commands, acts_of_cut_commands, acts_of_one_actor,
+};
 pub use duo_lines::{dependence_on_the_duo, duos_of_runs};
 pub use existence::runs_exist;
 pub use promises::{promises_of_runs, sound_moments};

@@ -1,9 +1,12 @@
-use Rattle.fabric_run.proofs.Following.{sound-moments, met-faults}
+use Rattle.fabric_run.proofs.Following.{sound-moments, text-acts, met-faults}
 use Rattle.fabric_run.proofs.Writing.{half-part, interrupted-part}
 use Rattle.fabric_run.proofs.promise.what_promises_imply.Goals as goal
 
 pub returns-clause-moments : goal.returns-clause-moments
 returns-clause-moments c = sound-moments
+
+pub returns-clause-acts : goal.returns-clause-acts
+returns-clause-acts c = text-acts
 
 pub returns-clause-met_faults : goal.returns-clause-met_faults
 returns-clause-met_faults c = met-faults
