@@ -1,11 +1,12 @@
 """Which layout suits a fabric."""
 
+from fabtools.crowd import FEW, Crowd
 from fabtools.entry import Failure
 from fabtools.groups import Groups, groups_of
 from fabtools.layout import Grid, Levels, Round, Springs, between_switches, grid_of, levels, ring_of, square
 from fabtools.slices import Slices, box_of
 
-KINDS = ("levels", "grid", "slices", "ring", "groups", "springs")
+KINDS = ("levels", "grid", "slices", "ring", "groups", "springs", "rows")
 
 
 class NoLayout(Failure):
@@ -19,7 +20,9 @@ def kind_of(fabric):
             return kind
     level, cables, at = levels(fabric), between_switches(fabric), {it: at for at, it in enumerate(fabric.switches)}
     far = [(a, b) for a, b in cables if level[a[0]] == level[b[0]] and abs(at[a[0]] - at[b[0]]) > 1]
-    return "springs" if 3 * len(far) > len(cables) else "levels"
+    if 3 * len(far) <= len(cables):
+        return "levels"
+    return "springs" if len(fabric.switches) <= FEW else "rows"
 
 
 def layout_of(fabric, kind=None, grid=None):
@@ -32,7 +35,7 @@ def layout_of(fabric, kind=None, grid=None):
         return make(fabric, found)
     if kind == "grid":
         return Grid(fabric, grid or grid_of(fabric) or square(len(fabric.switches)))
-    return {"levels": Levels, "ring": Round, "springs": Springs}[kind](fabric)
+    return {"levels": Levels, "ring": Round, "springs": Springs, "rows": Crowd}[kind](fabric)
 
 
 REASONS = {

@@ -25,7 +25,7 @@ class AnyNames:
         self.hosts, self.script = self, []
 
     def __contains__(self, name):
-        return bool(forms.NAME.match(name))
+        return isinstance(name, str) and bool(forms.NAME.match(name))
 
     def ports(self, name):
         return max(forms.PORT_COUNTS) if name in self else 0
@@ -89,9 +89,9 @@ def read(reader, text, name, due):
 
 
 def before(reader, text):
-    """The text of the answers before the one that isn't whole."""
+    """The text of the answers before the one that isn't whole, its last line with its end."""
     is_there = reader.begun < len(reader.report)
-    return "\n".join(text.split("\n")[: reader.report[reader.begun][0] - 1]) if is_there else text
+    return "\n".join([*text.split("\n")[: reader.report[reader.begun][0] - 1], ""]) if is_there else text
 
 
 def too_early(reader, due):

@@ -8,7 +8,7 @@ from html import escape
 from fabtools.arranging import layout_of
 
 SLOT, NAME, SMALL, PORT = 13, 12, 10, 8
-MARGIN, LOOP, STUB = 16, 30, 22
+MARGIN, LOOP, HIGHEST, STUB = 16, 30, 260, 22
 # The ways out of a box by its sides; a corner is the right half of the lower side, front its left one, and back the right
 # half of the upper side.
 OUT = {"top": (0, -1), "bottom": (0, 1), "left": (-1, 0), "right": (1, 0)}
@@ -129,7 +129,7 @@ class Drawing:
         if side != other:
             return None
         ox, oy = OUT[side]
-        high = LOOP + 0.13 * (abs(x - u) + abs(y - v))
+        high = min(LOOP + 0.13 * (abs(x - u) + abs(y - v)), HIGHEST)
         return (x + ox * high, y + oy * high), (u + ox * high, v + oy * high)
 
     def is_cut(self, a, b):

@@ -115,8 +115,8 @@ class MapFacts:
         shown = self.shown
         return [
             f"line {shown.line}: circuit {shown.host} depth {shown.depth}",
-            f"  circuit links to {counted(shown.depth, 'cable')}, by {counted(shown.asks, 'ask')} and no packet, without what is outside",
-            "  nothing in it shows whether that is deep enough: one more than the core has cables always is",
+            f"  mapped as over circuit links, {counted(shown.depth, 'cable')} deep, by {counted(shown.asks, 'ask')} and no packet; the map leaves out what is outside",
+            "  nothing in it shows whether that is deep enough; one more than the number of the core's cables always is",
         ]
 
     def switch_line(self, vertex):
@@ -171,7 +171,7 @@ class RoutesFacts:
             return [f"  WRONG: {it}" for it in faults]
         return [
             f"  checked again: each route leads to its host, and the {len(self.routed.ranks)} ranks rise along all of them,",
-            "  so no packets on these routes can wait for each other in a circle",
+            "  so no packets on these routes can deadlock",
         ]
 
     def detour_lines(self):

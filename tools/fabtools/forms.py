@@ -38,7 +38,7 @@ step advance|lose|repeat|hold|reset V P
                                       one event of what leaves port P of V
 step flip V P BIT PATTERN             the same
 step replay SERIAL                    a packet that was put aside comes back
-settle                                lets all go on until all is acknowledged
+settle                                sends again until all is acknowledged
 pull V P                              pulls the cable at port P of V
 plug V P W Q                          joins two ports by a new cable
 broken                                shows the installed routes over pulled cables

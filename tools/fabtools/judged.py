@@ -86,7 +86,7 @@ def at_command(answer):
 
 
 def due_form(told, answer, line):
-    yield "such an answer is, with the command's own names:"
+    yield "such an answer has this form, with the command's own names:"
     yield from (f"  {it}" for it in ANSWERS[answer.words[0]])
 
 

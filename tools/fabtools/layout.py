@@ -251,12 +251,16 @@ class Free:
 def pushed_apart(spots, sizes):
     """The places, where boxes that overlap have pushed each other away, along the way that is shorter."""
     spots, names = {it: list(at) for it, at in spots.items()}, list(spots)
+    wide, high = (max((it[k] for it in sizes.values()), default=0) + GAP for k in (0, 1))
     # Fewer rounds of a large fabric, each of which looks at every two boxes.
     for _ in range(max(3, min(300, 20_000_000 // (len(names) ** 2 + 1)))):
         moved = False
         for at, one in enumerate(names):
+            here = spots[one]
             for other in names[at + 1 :]:
-                moved |= push(spots[one], spots[other], sizes[one], sizes[other])
+                there = spots[other]
+                if abs(here[1] - there[1]) < high and abs(here[0] - there[0]) < wide:
+                    moved |= push(here, there, sizes[one], sizes[other])
         if not moved:
             break
     return {it: tuple(at) for it, at in spots.items()}

@@ -36,7 +36,7 @@ MAP_WORDS = {
     ),
     "complete": (
         "none of these holds: the map is the mapper's part of the fabric",
-        "the map is the real network, as far as cables join it to {host}",
+        "the map is the real network: everything that {host} can reach by cable",
         "",
     ),
     "circuit {host} nodes": (
@@ -101,7 +101,7 @@ def of_depth(fabric, host, is_complete=False):
 
 def better_hosts(sure, possible):
     if sure:
-        return f"deep enough are maps from {', '.join(sure)}"
+        return f"maps from {', '.join(sure)} are deep enough"
     if possible:
         return f"a map from {', '.join(possible)} may be whole, though none surely is"
     return "the same holds for each other host"
@@ -120,7 +120,7 @@ def of_line(words):
     if words[0] == "settle" and words[-1] != "0":
         return "messages wait: for a token that fits (its SIZE exactly, its priority), a port that is open, a receiver with a table, or a cable"
     if words[0] == "settle" and words[4] != "0":
-        return "packets that waited for each other in a circle were taken away: packets of a mapper, flipped ones, or those of routes that were given up"
+        return "deadlocked packets were removed: packets of a mapper, flipped packets, or packets of routes that were given up"
     if words[0] == "installed" and words[1] != words[3]:
         return "each host that isn't counted has a part that met a planned fault in each try, or whose way lost a cable: 'install' again, or map again"
     if words[0] == "revoked":

@@ -1,6 +1,7 @@
 """Each tool over damaged reports, texts and netlists: a documented status, one line where that is 2, and never a traceback.
 
-usage: python3 damaged.py     in tools/tests; prints each fault, and how many there are
+usage: python3 damaged.py [SEED [COUNT]]     in tools/tests, over so many damaged reports; prints each fault, and how many
+                                             there are
 """
 
 import contextlib
@@ -19,15 +20,15 @@ sys.path.insert(0, str(TOOLS))
 
 from fabtools import asking, entry, judging  # noqa: E402
 
-RNG = random.Random(11)
+SEED, MANY = [*map(int, sys.argv[1:]), *(11, 500)[len(sys.argv) - 1 :]]
+RNG = random.Random(SEED)
 EXAMPLES = TOOLS.parent / "examples"
 # Small runs that have every kind of line together.
 RUNS = [EXAMPLES / it for it in ("two-hosts", "lost-part", "pulled-and-plugged", "circuit-links", "duo-restart")]
 RUNS += [EXAMPLES / "refused-calls", EXAMPLES / "ring-too-shallow", TOOLS / "tests/moves", TOOLS / "tests/fragments"]
-WORDS = ["", "0", "-1", "+3", "9" * 30, "9" * 5000, "x", "#0", "#7", "a", "zz", "end", "refused", "endmap", "\x00", "\xe9", "="]
+WORDS = ["", "0", "-1", "+3", "9" * 30, "9" * 5000, "x", "#0", "#7", "#x", "a", "zz", "end", "refused", "endmap", "\x00", "\xe9", "="]
 NETLISTS = ("ibnetdiscover.txt", "updn-lfts.txt")
 FULL = "/dev/full"
-MANY = 500
 
 
 class Input(io.StringIO):
@@ -70,6 +71,11 @@ def changed(lines):
     return [*lines[:at], " ".join(words), *lines[at + 1 :]]
 
 
+def byte_changed(text):
+    at = RNG.randrange(len(text))
+    return text[:at] + chr(RNG.randrange(256)) * RNG.randrange(3) + text[at + 1 :]
+
+
 def damages(text):
     """What becomes of a file, each with the name of what was done to it."""
     lines = text.split("\n")[:-1]
@@ -77,8 +83,11 @@ def damages(text):
     for at in range(1, len(lines)):
         yield "cut", "\n".join([*lines[:at], ""])
         yield "cut within a line", "\n".join([*lines[:at], lines[at][: len(lines[at]) // 2]])
+        yield "cut, with CR and LF", "\r\n".join([*lines[:at], ""])
         yield "a line left out", "\n".join([*lines[:at], *lines[at + 1 :], ""])
+        yield "two lines swapped", "\n".join([*lines[: at - 1], lines[at], lines[at - 1], *lines[at + 1 :], ""])
         yield "a line doubled", "\n".join([*lines[: at + 1], *lines[at:], ""])
+        yield "a byte changed", byte_changed(text)
         for _ in range(2):
             yield "a word changed", "\n".join([*changed(lines), ""])
 
@@ -118,7 +127,7 @@ def of_report(looks, folder, file, what, text):
     report.write_bytes(text.encode("latin-1"))
     told = f"{file.name}, {what}"
     # What ends too early or has a line twice is never the report of its text. Without a rank it may be a wrong one.
-    is_sure = what not in ("a word changed", "a line left out")
+    is_sure = what not in ("a word changed", "a byte changed", "two lines swapped", "a line left out")
     surely = (2,) if is_sure else (0, 1, 2)
     options = RNG.choice(([], ["--brief"], ["--json"], ["--loads"], ["--pair", "a", "b"], ["--cable", "a:0"]))
     looks.look(told, "explain", plan, report, *options, allowed=surely)
