@@ -34,12 +34,16 @@ class Closed:
 
 
 class Named:
-    """Standard error, on which tools have the names under which they are installed."""
+    """Standard error, on which tools have the names under which they are installed; what standard output was given stands before."""
 
     def __init__(self, to):
         self.to = to
 
     def write(self, text):
+        # A failure shows again when the tool ends.
+        if sys.stdout:
+            with suppress(OSError, ValueError):
+                sys.stdout.flush()
         return self.to.write(named(text))
 
     def __getattr__(self, name):
@@ -104,13 +108,18 @@ def run(main, told, words):
 
 def failed(name, why):
     """Says why in one line, also where nothing more can be written to standard output."""
-    with suppress(OSError):
-        print(f"{name}: {why}", file=sys.stderr, flush=True)
+    finish(sys.stderr, f"{name}: {why}\n")
     if sys.stdout is sys.__stdout__ and sys.stdout:
-        try:
-            sys.stdout.flush()
-        except OSError:
-            os.dup2(os.open(os.devnull, os.O_WRONLY), sys.stdout.fileno())
+        finish(sys.stdout, "")
+
+
+def finish(stream, text):
+    """Writes the last text to a stream. Where that fails, what is left in it goes nowhere, as Python would fail over it again."""
+    try:
+        stream.write(text)
+        stream.flush()
+    except OSError:
+        os.dup2(os.open(os.devnull, os.O_WRONLY), stream.fileno())
 
 
 def why_text(why):

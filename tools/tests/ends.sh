@@ -12,6 +12,8 @@ explain $text <&-
 echo "status $?"
 compare $text no-such-file 2>&-
 echo "status $?"
+compare $text no-such-file 2> /dev/full
+echo "status $?"
 dot $text --svg - | head -c 4
 echo " status ${PIPESTATUS[*]}"
 timeout --preserve-status -s INT 2 duo-model --walk 1 100000000 > /dev/null
