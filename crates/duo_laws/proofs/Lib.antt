@@ -14,3 +14,5 @@ pub mod Waiting
 pub mod Reading
 pub mod Growing
 pub mod Reaching
+pub mod Handing
+pub mod Seen

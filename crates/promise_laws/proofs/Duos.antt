@@ -33,9 +33,9 @@ use Rattle.promise_laws.specs.Duos.{DuoLinesDependOnTheDuo, DuoLinesKeepTheRest,
 use Rattle.promise_laws.specs.Duos.IsDuoLeft.{kept, begins, stepped}
 
 -- what a line of the two hosts did
-record Did (s : SessionState) (e : DuoEvent) (out : List Piece) (next : SessionState) : Type 0 where
-  printed : out ≡ OneLine (DuoLine (duo_step (begun s.duo) e).0) ∷ []
-  left : next ≡ beside s (Some (duo_step (begun s.duo) e).1)
+pub record Did (s : SessionState) (e : DuoEvent) (out : List Piece) (next : SessionState) : Type 0 where
+  pub printed : out ≡ OneLine (DuoLine (duo_step (begun s.duo) e).0) ∷ []
+  pub left : next ≡ beside s (Some (duo_step (begun s.duo) e).1)
 
 some-deed : (x y : Deed) → Some x ≡ Some y → x ≡ y
 some-deed x y e = cc
@@ -46,7 +46,7 @@ duo-deed e same (maps after j m words idle made is) = cc
 duo-deed e same (circuits out told is) = cc
 duo-deed e same (routes l found complete are is) = cc
 
-did : {s next : SessionState} {c : Command} {out : List Piece} → (e : DuoEvent) → c ≡ Duo e → Does s c out next → Did s e out next
+pub did : {s next : SessionState} {c : Command} {out : List Piece} → (e : DuoEvent) → c ≡ Duo e → Does s c out next → Did s e out next
 did {s = s} e same d =
     let one = duo-deed e same d.is in
     record { printed = d.prints ∙ ap (λ (x : Deed). x.output) one; left = d.leaves ∙ ap (session_after s) one }
@@ -128,7 +128,7 @@ does-beside {s = s} d other does = record {
   leaves = ap (λ (x : SessionState). beside x d) does.leaves ∙ noted-beside (record s { world = acted_all s.world does.deed.acts }) does.deed.note d (other-deed other does.is);
 }
 
-does-keep : {s next : SessionState} {c : Command} {out : List Piece} → IsOther c → Does s c out next → next.duo ≡ s.duo
+pub does-keep : {s next : SessionState} {c : Command} {out : List Piece} → IsOther c → Does s c out next → next.duo ≡ s.duo
 does-keep {s = s} other does = ap (λ (x : SessionState). x.duo) does.leaves ∙ noted-duo (record s { world = acted_all s.world does.deed.acts }) does.deed.note (other-deed other does.is)
 
 pub others_keep_the_duo : OthersKeepTheDuo
@@ -173,7 +173,7 @@ reached-some : (o : Option DuoState) (d : DuoState) → AreReached o → o ≡ S
 reached-some o d is e = subst AreReached e is
 
 -- a command is a line of theirs, or another
-line-or-other : (c : Command) → ((e : DuoEvent) × (c ≡ Duo e)) ⊎ IsOther c
+pub line-or-other : (c : Command) → ((e : DuoEvent) × (c ≡ Duo e)) ⊎ IsOther c
 line-or-other (Duo e) = inl (e, refl)
 line-or-other (Walk host walk) = inr (λ e p. cc)
 line-or-other (Map host depth tries) = inr (λ e p. cc)

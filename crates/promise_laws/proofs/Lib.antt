@@ -2,6 +2,7 @@ pub mod Acting
 pub mod Begun
 pub mod CutShort
 pub mod Duos
+pub mod DuoLines
 pub mod OneAction
 pub mod OneChannel
 pub mod Plugs

@@ -1,6 +1,8 @@
 pub mod CableLines
 pub mod CommandActs
 pub mod CutShort
+pub mod DuoExamples
+pub mod DuoPolls
 pub mod Duos
 pub mod Examples
 pub mod Existence

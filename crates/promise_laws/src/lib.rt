@@ -9,6 +9,7 @@
 //! | `CommandActs` | that the acts of a command's deed may happen, each one action; those of a run lead to its last world |
 //! | `CutShort` | that a command is cut short, and a map that was begun |
 //! | `Duos` | what a command depends on, of the two hosts that restart, and what they come to in a run |
+//! | `DuoPolls`, `DuoExamples` | what lines `duo received` show, against what each incarnation got; an example |
 //! | `OneAction` | whose an act is, and that it is one action, of one host, of one channel or of one cable |
 //! | `Existence` | each command is one deed after every run, and so there is a run |
 //! | `ReceivedLines` | what lines `received` show, against `send` lines with a token: once, in order, byte for byte |
@@ -20,6 +21,7 @@
 mod cable_lines;
 mod command_acts;
 mod duo_lines;
+mod duo_polls;
 mod existence;
 mod promises;
 mod received_lines;
@@ -31,6 +33,7 @@ pub use command_acts::{
     acts_of_all_commands, acts_of_commands, acts_of_cut_commands, acts_of_one_actor,
 };
 pub use duo_lines::{dependence_on_the_duo, duos_of_runs};
+pub use duo_polls::{duo_lines_of_messages, duo_message_in_lines};
 pub use existence::runs_exist;
 pub use promises::{promises_of_runs, sound_moments};
 pub use received_lines::lines_of_messages;
