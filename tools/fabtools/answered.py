@@ -8,7 +8,7 @@ ANSWERS = {
     "map": ["map H complete|doubtful N|incomplete depth asks A packets N, and the lines of the map up to endmap", "map H incomplete nodes asks A packets N", "map H refused busy"],
     "circuit": ["circuit H depth D asks A, and the lines of the map up to endmap", "circuit H nodes asks A"],
     "routes": ["routes N, so many lines route by their hosts, lines rank by vertex and port, and endroutes", "routes refused nomap"],
-    "install": ["installed K of N, and a line table for each host of the last routes", "install refused noroutes|busy|changed|installed|epochs"],
+    "install": ["installed K of N, and a line table for each host of the last routes, at least K of them active", "install refused noroutes|busy|changed|installed|epochs"],
     "open": ["open H P done", "open H P refused already"],
     "close": ["close H P done N", "close H P refused notopen|busy N|unread N|filling N"],
     "provide": ["provide H P token T", "provide H P refused notopen|notoken|badsize"],

@@ -9,8 +9,9 @@ WORDS = (
     " 18446744073709551615 18446744073709551616 0001"
 ).split()
 # The lines of a report of which more is judged than their form.
-JUDGED = ("route", "rank", "cable", "host", "map", "poll", "poll", "send", "provide", "tokens", "close", "open", "pull", "plug", "installed", "table", "broken")
+JUDGED = ("route", "rank", "cable", "host", "map", "poll", "poll", "send", "provide", "tokens", "close", "open", "pull", "plug", "installed", "table", "switch", "broken")
 MAP_WORDS = ("complete", "doubtful 1", "incomplete depth")
+OTHERS = {"active": "none", "none": "active", "core": "outside", "outside": "core"}
 
 
 def bases(folder):
@@ -93,6 +94,8 @@ def other_meaning(random, kind, words):
     if kind == "map" and words[2:3] and random.random() < 0.5:
         begin = words.index("asks", 2) if "asks" in words[2:] else len(words)
         return [*words[:2], *random.choice(MAP_WORDS).split(), *words[begin:]]
+    if words[-1] in OTHERS and random.random() < 0.7:
+        return [*words[:-1], OTHERS[words[-1]]]
     if kind == "poll" and words[-2:-1] == ["bytes"] and random.random() < 0.5:
         return [*words[:-1], other_bytes(random, words[-1])]
     at = random.choice([it for it in range(len(words)) if it == 0 or any(map(str.isdigit, words[it]))])

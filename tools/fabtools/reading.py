@@ -16,7 +16,7 @@ FORMS = {
     ],
     "circuit": ["circuit H nodes asks N", "circuit H depth U asks N"],
     "routes": ["routes refused nomap", "routes U"],
-    "install": ["install refused noroutes|busy|changed|installed|epochs", "installed N of U"],
+    "install": ["install refused noroutes|busy|changed|installed|epochs", "installed U of U"],
     "open": ["open H Q refused already", "open H Q done"],
     "close": ["close H Q refused notopen", "close H Q refused busy|unread|filling N", "close H Q done U"],
     "provide": ["provide H Q refused notopen|notoken|badsize", "provide H Q token U"],
@@ -104,7 +104,7 @@ class Reader:
     def __init__(self, names, report, past):
         self.names, self.report, self.past, self.at = names, report, past, 0
         self.shown = self.routed = None
-        self.installed = self.is_done = False
+        self.installed = self.is_done = self.has_outside = False
         # The command whose answer is read, as (line, words), and where that begins.
         self.asked, self.begun = None, 0
 
@@ -191,10 +191,11 @@ class Reader:
         if "depth" in form.split():
             self.need(number(said[3]) == int(words[2]), line)
             self.read_map()
+            self.need(not self.has_outside, line)
 
     def read_map(self):
         """The vertices of a map, hosts by name and switches by number, and the far ends of its cabled ports."""
-        vertices, far = [], {}
+        vertices, far, self.has_outside = [], {}, False
         while True:
             line, said = self.next()
             if said == ["endmap"]:
@@ -206,6 +207,7 @@ class Reader:
                 count = sum(map(is_switch, vertices))
                 self.need(len(said) == 3 and switch(said[1]) == count and said[2] in ("core", "outside"), line)
                 vertices.append(count)
+                self.has_outside = self.has_outside or said[2] == "outside"
             else:
                 self.need(said[0] == "cable" and len(said) == 5, line)
                 self.add_cable(vertices, far, line, [(self.vertex(said[at]), turn(said[at + 1])) for at in (1, 3)])
@@ -269,15 +271,21 @@ class Reader:
     def do_install(self, words, line, said, form):
         if said[0] == "install":
             return
-        self.need(self.routed is None or number(said[3]) == len(self.routed), line)
-        before = -1
-        for at in range(number(said[3])):
+        acked, count = number(said[1]), number(said[3])
+        self.need(acked <= count and (self.routed is None or count == len(self.routed)), line)
+        self.need(acked <= self.read_tables(count), line)
+        self.installed = True
+
+    def read_tables(self, count):
+        """Reads the tables of an installation; how many are active."""
+        before, active = -1, 0
+        for at in range(count):
             line, said = self.next()
             self.need(self.fits(["table", "H", "active|none"], said), line)
             address = self.address(said[1])
             self.need(before < address if self.routed is None else said[1] == self.routed[at], line)
-            before = address
-        self.installed = True
+            before, active = address, active + (said[2] == "active")
+        return active
 
 
 def same(one, other):

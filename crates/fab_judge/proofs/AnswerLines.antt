@@ -1,5 +1,5 @@
 -- The lines of an answer.
-use Rattle.std.proofs.Common.{◌≡◌, ◌+◌, ℕ, List, [], ◌∷◌, true, false, Option, Some, None, Result, Ok, Err, refl, ap, sym, ◌∙◌, subst, if◌then◌else◌, arith}
+use Rattle.std.proofs.Common.{◌≡◌, ◌+◌, ℕ, Bool, List, [], ◌∷◌, map, nat_le, true, false, Option, Some, None, Result, Ok, Err, refl, ap, sym, ◌∙◌, subst, if◌then◌else◌, arith}
 use Rattle.net_defs.specs.declared.route.Route.{Route}
 use Rattle.net_defs.specs.Network.{Network}
 use Rattle.map_defs.specs.declared.rank.RankEntry.{RankEntry}
@@ -26,7 +26,7 @@ use Rattle.fab_judge.specs.declared.stop.Unread.TheVariants.{At, NoMemory}
 use Rattle.fab_judge.specs.Reading.{ReaderState, HasRead, AreNumbered, begun, Gives, GivesMap, GivesItems, Passes, next_said, numbered, unread_map}
 use Rattle.fab_judge.proofs.Steps.{then_numbered, numbered_fewer}
 use Rattle.fab_judge.specs.Answers.{GivesAnswer, more_lines}
-use Rattle.fab_judge.specs.Blocks.{block_in, block_by}
+use Rattle.fab_judge.specs.Blocks.{CountsActive, block_in, block_by}
 use Rattle.fab_judge.proofs.Next.{IsTaken, next-taken}
 
 -- which lines follow a first line
@@ -93,13 +93,15 @@ pub map-stopped : (l : ReportLine) (part : Result MapPart FirstFault) (left : Li
 map-stopped l part left (At line) g = ap (map_block l) g.1 ∙ ap (λ k. Err k) g.2
 map-stopped l part left NoMemory g = tt
 
--- tables
-pub tables-read : (gs : Reads (List ℕ)) (left : List TextLine) → Passes gs left (Ok tt) → GivesAnswer (tables_block gs) left (Ok TablesRead)
-tables-read gs left g = (WithTables g.0, ap tables_block g.1, (g.0, refl))
-
-pub tables-not-read : (gs : Reads (List ℕ)) (left : List TextLine) (stop : Unread) → Passes gs left (Err stop) → GivesAnswer (tables_block gs) left (Err stop)
-tables-not-read gs left (At line) g = ap tables_block g
-tables-not-read gs left NoMemory g = tt
+-- tables of which enough are active
+pub tables-read : (number acked active : ℕ) (ts : Reads (List (ℕ × Bool))) (left : List TextLine) → CountsActive ts left (Ok active) → nat_le acked active ≡ true
+    → GivesAnswer (tables_block number acked ts) left (Ok TablesRead)
+tables-read number acked active ts left g e =
+    let hosts : List ℕ = map (λ (t : ℕ × Bool). t.0) g.0 in (
+      WithTables hosts,
+      ap (tables_block number acked) g.1 ∙ (λ i. if (ap (nat_le acked) (sym g.2) ∙ e) i then Ok (WithTables hosts, left) else Err number),
+      (hosts, refl),
+    )
 
 -- broken routes
 pub broken-read : (p : ℕ × ℕ) (past : ℕ) (n : Network) (ls left : List TextLine) → Passes (broken_lines (Some p) past n ls) left (Ok tt) → GivesAnswer (broken_block p past n ls) left (Ok BrokenRead)

@@ -100,8 +100,8 @@ silent c NoMap o s p t b r w = record { untold = refl; lengths = tt; places = λ
 silent c (RouteLine route) o s p t b r w = record { untold = refl; lengths = tt; places = λ past. tt }
 silent c (Rank v port rank) o s p t b r w = record { untold = refl; lengths = tt; places = λ past. tt }
 silent c EndRoutes o s p t b r w = record { untold = refl; lengths = tt; places = λ past. tt }
-silent c (Installed count) o s p t b r w = record { untold = refl; lengths = tt; places = λ past. tt }
-silent c (Table h) o s p t b r w = record { untold = refl; lengths = tt; places = λ past. tt }
+silent c (Installed acked count) o s p t b r w = record { untold = refl; lengths = tt; places = λ past. tt }
+silent c (Table h active) o s p t b r w = record { untold = refl; lengths = tt; places = λ past. tt }
 silent c InstallRefused o s p t b r w = record { untold = refl; lengths = tt; places = λ past. tt }
 silent c (NothingCame a) o s p t b r w = record { untold = refl; lengths = tt; places = λ past. tt }
 silent c (CallRefused call a) o s p t b r w = record { untold = refl; lengths = tt; places = λ past. tt }

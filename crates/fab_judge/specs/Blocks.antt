@@ -1,6 +1,6 @@
 -- The lines that follow an answer's first line.
-use Rattle.std.specs.Prelude.{◌≡◌, ℕ, ◌-◌, List, [], ◌∷◌, ◌++◌, length, slice_get, true, false, if◌then◌else◌}
-use Rattle.std.specs.Prelude.{Option, Some, None, option_and_then, Result, Ok, Err}
+use Rattle.std.specs.Prelude.{◌≡◌, ℕ, ◌+◌, ◌-◌, Bool, true, false, List, [], ◌∷◌, ◌++◌, length, slice_get}
+use Rattle.std.specs.Prelude.{if◌then◌else◌, Option, Some, None, option_and_then, Result, Ok, Err}
 use Rattle.net_defs.specs.declared.route.Route.{Route}
 use Rattle.net_defs.specs.Network.{Network}
 use Rattle.port_graph.specs.Routes.{is_above}
@@ -17,13 +17,14 @@ use Rattle.report_lines.specs.declared.line.ReportLine.TheVariants.{Routes as Ro
 use Rattle.report_lines.specs.declared.line.ReportLine.TheVariants.{Installed, Route as RouteLine}
 use Rattle.report_lines.specs.declared.line.ReportLine.TheVariants.{Broken as BrokenLine, EndBroken, NoBroken}
 use Rattle.answer_defs.specs.Answer.{Answer, Alone, WithBroken}
-use Rattle.judge_defs.specs.Form.{Reads, Known, map_block, routes_block, tables_block, tables_of, rank_due}
-use Rattle.judge_defs.specs.Form.{is_end_of_routes}
+use Rattle.judge_defs.specs.Form.{Reads, Known, map_block, circuit_block, routes_block, tables_block, tables_of}
+use Rattle.judge_defs.specs.Form.{active_count, rank_due, is_end_of_routes}
 use Rattle.judge_defs.specs.Form.{broken_block, refused_block, pair_in, pair_due, is_end_of_broken}
 use Rattle.fab_judge.specs.declared.stop.Unread.{Unread}
 use Rattle.fab_judge.specs.declared.stop.Unread.TheVariants.{At, NoMemory}
 use Rattle.fab_judge.specs.declared.block.Block.{Block}
-use Rattle.fab_judge.specs.declared.block.Block.TheVariants.{Map, Routes, Tables, Broken, NoneBroken, Refused, Nothing}
+use Rattle.fab_judge.specs.declared.block.Block.TheVariants.{Map, Circuit, Routes, Tables, Broken, NoneBroken, Refused}
+use Rattle.fab_judge.specs.declared.block.Block.TheVariants.{Nothing}
 
 -- a map's lines follow, unless its tree had too many nodes
 abbrev pub block_of_map : MapSaid → Block
@@ -33,9 +34,9 @@ block_of_map said = Map
 -- which lines follow a first line
 abbrev pub block_in : ReportLine → Block
 block_in (MapLine h said) = block_of_map said
-block_in (CircuitLine h depth) = Map
+block_in (CircuitLine h depth) = Circuit
 block_in (RoutesLine count) = Routes count
-block_in (Installed count) = Tables count
+block_in (Installed acked count) = Tables acked count
 block_in (BrokenLine from to) = Broken from to
 block_in EndBroken = NoneBroken
 block_in NoBroken = Refused
@@ -44,12 +45,24 @@ block_in l = Nothing
 -- an answer by which lines follow its first line
 abbrev pub block_by : Block → ℕ → ReportLine → Known → ℕ → Network → List TextLine → Reads Answer
 block_by Map number l k past n ls = map_block l (map_part past n ls)
+block_by Circuit number l k past n ls = circuit_block number l (map_part past n ls)
 block_by (Routes count) number l k past n ls = routes_block count k.shown past n ls
-block_by (Tables count) number l k past n ls = tables_block (tables_of number count k.routed past n ls)
+block_by (Tables acked count) number l k past n ls =
+    tables_block number acked (tables_of number count k.routed past n ls)
 block_by (Broken from to) number l k past n ls = broken_block (from, to) past n ls
 block_by NoneBroken number l k past n ls = Ok (WithBroken [], ls)
 block_by Refused number l k past n ls = refused_block k.adopted (pair_in n NoBroken) past n ls
 block_by Nothing number l k past n ls = Ok (Alone l, ls)
+
+-- Tables that are read, which aren't kept: how many are active.
+abbrev pub CountsActive : Reads (List (ℕ × Bool)) → List TextLine → Result ℕ Unread → Type 0
+CountsActive said left (Ok active) = (ts : List (ℕ × Bool)) × (said ≡ Ok (ts, left)) × (active ≡ active_count ts)
+CountsActive said left (Err (At line)) = said ≡ Err line
+CountsActive said left (Err NoMemory) = Unit {0}
+
+-- how many are active with one more
+abbrev pub more_active : ℕ → Bool → ℕ
+more_active active is = if is then active + 1 else active
 
 -- the route of a line
 abbrev pub route_in : ReportLine → Option Route

@@ -1,9 +1,10 @@
 //! The answer of a command, and how it is read.
 
 ghost use Rattle.std.specs.Prelude.{◌≡◌, ◌+◌, IfOk};
+ghost use Rattle.std.specs.List.{list_all};
 ghost use Rattle.report_lines.specs.declared.line.ReportLine.TheVariants.{NoBroken};
-ghost use Rattle.judge_defs.specs.Form.{answer_from, map_block, routes_block, tables_block, tables_of, pair_in};
-ghost use Rattle.judge_defs.specs.Form.{broken_block, refused_block};
+ghost use Rattle.judge_defs.specs.Form.{answer_from, map_block, circuit_block, routes_block, tables_block, tables_of};
+ghost use Rattle.judge_defs.specs.Form.{is_all_core, pair_in, broken_block, refused_block};
 ghost use Rattle.map_canon.specs.Reading.{map_part};
 ghost use Rattle.fab_judge.specs.Shown.{map_in};
 ghost use Rattle.fab_judge.specs.Past.{known_in};
@@ -85,8 +86,11 @@ fn read_block(
 {
     match block {
         Block::Map => read_map_block(f, line, reader),
+        Block::Circuit => read_circuit_block(f, number, line, reader),
         Block::Routes(count) => read_routes_block(alloc, f, count, &past.shown, reader),
-        Block::Tables(count) => read_tables_block(f, number, count, past, reader),
+        Block::Tables { acked, count } => {
+            read_tables_block(f, number, acked, count, past, reader)
+        }
         Block::Broken(from, to) => read_broken_block(f, (from, to), reader),
         Block::NoneBroken => Ok(Answer::WithBroken),
         Block::Refused => read_refused_block(f, past.adopted, reader),
@@ -104,6 +108,48 @@ fn read_map_block(f: &Fabric, line: ReportLine, reader: &mut Reader) -> Result<A
         Ok(map) => Ok(Answer::WithMap(line, map)),
         Err(stop) => Err(stop),
     }
+}
+
+// Reads the lines of a map of circuit links, after the line of this number.
+fn read_circuit_block(
+    f: &Fabric,
+    number: u32,
+    line: ReportLine,
+    reader: &mut Reader,
+) -> Result<Answer, Unread>
+    ensures said { GivesAnswer (circuit_block number line (map_part reader.old.past f.now reader.old.left))
+        reader.new.left result }
+    ensures numbered { IfOk result (λ a. AreNumbered reader.old reader.new (more_lines a)) }
+{
+    match reader.next_map(f) {
+        Ok(map) => {
+            if is_all_core(&map) {
+                Ok(Answer::WithMap(line, map))
+            } else {
+                Err(Unread::At(number))
+            }
+        }
+        Err(stop) => Err(stop),
+    }
+}
+
+// Whether no vertex of a map is marked `outside`.
+fn is_all_core(map: &FabricMap) -> bool
+    ensures { result ≡ is_all_core map.now }
+{
+    are_all(map.core())
+}
+
+// Whether each of these is true.
+fn are_all(marks: &[bool]) -> bool
+    ensures { result ≡ list_all (λ m. m) marks.now }
+{
+    for mark in marks {
+        if !*mark {
+            return false;
+        }
+    }
+    true
 }
 
 // Reads so many routes, their ranks, and `endroutes`.
@@ -127,20 +173,27 @@ fn read_routes_block(
     }
 }
 
-// Reads the tables of so many hosts.
+// Reads the tables of so many hosts, of which at least so many must be active.
 fn read_tables_block(
     f: &Fabric,
     number: u32,
+    acked: u64,
     count: u64,
     past: &Past,
     reader: &mut Reader,
 ) -> Result<Answer, Unread>
-    ensures said { GivesAnswer (tables_block (tables_of number count past.now.routed reader.old.past f.now
+    ensures said { GivesAnswer (tables_block number acked (tables_of number count past.now.routed reader.old.past f.now
         reader.old.left)) reader.new.left result }
     ensures numbered { IfOk result (λ a. AreNumbered reader.old reader.new (more_lines a)) }
 {
     match read_tables(f, reader, number, count, &past.routed) {
-        Ok(()) => Ok(Answer::WithTables),
+        Ok(active) => {
+            if acked <= active {
+                Ok(Answer::WithTables)
+            } else {
+                Err(Unread::At(number))
+            }
+        }
         Err(stop) => Err(stop),
     }
 }

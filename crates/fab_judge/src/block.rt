@@ -10,10 +10,17 @@ use report_lines::{MapSaid, ReportLine};
 pub(crate) enum Block {
     /// Those of a map.
     Map,
+    /// Those of a map of circuit links.
+    Circuit,
     /// So many routes, their ranks, and `endroutes`.
     Routes(u64),
-    /// The tables of so many hosts.
-    Tables(u64),
+    /// The tables of so many hosts, of which at least so many acknowledged theirs.
+    Tables {
+        /// The hosts that acknowledged their tables.
+        acked: u64,
+        /// The hosts.
+        count: u64,
+    },
     /// Broken routes after the one of this sender and this receiver, and `endbroken`.
     Broken(u16, u16),
     /// None: no route is broken.
@@ -30,9 +37,12 @@ pub(crate) fn block_in(line: &ReportLine) -> Block
 {
     match line {
         ReportLine::Map { said, .. } => block_of_map(*said),
-        ReportLine::Circuit { .. } => Block::Map,
+        ReportLine::Circuit { .. } => Block::Circuit,
         ReportLine::Routes(count) => Block::Routes(*count),
-        ReportLine::Installed(count) => Block::Tables(*count),
+        ReportLine::Installed { acked, count } => Block::Tables {
+            acked: *acked,
+            count: *count,
+        },
         ReportLine::Broken { from, to } => Block::Broken(*from, *to),
         ReportLine::EndBroken => Block::NoneBroken,
         ReportLine::NoBroken => Block::Refused,

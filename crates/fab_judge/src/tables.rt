@@ -1,8 +1,9 @@
 //! The tables of an installation.
 
-ghost use Rattle.std.specs.Prelude.{◌≡◌, IfOk, Some, None};
+ghost use Rattle.std.specs.Prelude.{◌≡◌, ◌<◌, IfOk, Some, None};
 ghost use Rattle.judge_defs.specs.Form.{next_due, table_due, rising_table_due, table_lines, rising_tables, tables_of};
-ghost use Rattle.fab_judge.specs.Reading.{Gives, Passes, HasRead, found};
+ghost use Rattle.fab_judge.specs.Reading.{Gives, HasRead, found};
+ghost use Rattle.fab_judge.specs.Blocks.{CountsActive, more_active};
 
 use crate::Hosts;
 use crate::reader::Reader;
@@ -11,15 +12,15 @@ use judge_defs::{rising_table_due, table_due};
 use port_graph::Fabric;
 
 /// Reads the tables of so many hosts: of these, or, where none are known, of any by rising address. The line that says
-/// how many has this number.
+/// how many has this number. The answer is how many of them are active.
 pub(crate) fn read_tables(
     f: &Fabric,
     reader: &mut Reader,
     number: u32,
     count: u64,
     routed: &Option<Hosts>,
-) -> Result<(), Unread>
-    ensures said { Passes (tables_of number count routed.now reader.old.past f.now reader.old.left)
+) -> Result<u64, Unread>
+    ensures said { CountsActive (tables_of number count routed.now reader.old.past f.now reader.old.left)
         reader.new.left result }
     ensures read { IfOk result (λ _. HasRead reader.old reader.new 0) }
 {
@@ -36,8 +37,8 @@ fn read_counted_tables(
     number: u32,
     count: u64,
     hosts: &[u16],
-) -> Result<(), Unread>
-    ensures said { Passes (tables_of number count (Some hosts.now) reader.old.past f.now reader.old.left)
+) -> Result<u64, Unread>
+    ensures said { CountsActive (tables_of number count (Some hosts.now) reader.old.past f.now reader.old.left)
         reader.new.left result }
     ensures read { IfOk result (λ _. HasRead reader.old reader.new 0) }
 {
@@ -49,18 +50,20 @@ fn read_counted_tables(
 }
 
 // Reads the tables of these hosts.
-fn read_tables_of(f: &Fabric, reader: &mut Reader, hosts: &[u16]) -> Result<(), Unread>
-    ensures said { Passes (table_lines hosts.now reader.old.past f.now reader.old.left) reader.new.left result }
+fn read_tables_of(f: &Fabric, reader: &mut Reader, hosts: &[u16]) -> Result<u64, Unread>
+    ensures said { CountsActive (table_lines hosts.now reader.old.past f.now reader.old.left) reader.new.left result }
     ensures read { IfOk result (λ _. HasRead reader.old reader.new 0) }
 {
+    let mut active = 0;
     'lines: for due in hosts {
-        let _host = read_table(f, reader, *due)?;
+        let table = read_table(f, reader, *due)?;
+        active = more_active(active, table.1);
     }
-    Ok(())
+    Ok(active)
 }
 
 // Reads the table of a host.
-fn read_table(f: &Fabric, reader: &mut Reader, due: u16) -> Result<u16, Unread>
+fn read_table(f: &Fabric, reader: &mut Reader, due: u16) -> Result<(u16, bool), Unread>
     ensures said { Gives (next_due (table_due due) reader.old.past f.now reader.old.left) reader.new.left result }
     ensures read { IfOk result (λ _. HasRead reader.old reader.new 1) }
 {
@@ -70,31 +73,46 @@ fn read_table(f: &Fabric, reader: &mut Reader, due: u16) -> Result<u16, Unread>
     }
 }
 
-// The host that was due; the line of this number is out of form where it says another.
-fn found(number: u32, host: Option<u16>) -> Result<u16, Unread>
-    ensures { result ≡ found number host }
+// How many are active with one more.
+fn more_active(active: u64, is_active: bool) -> u64
+    requires { active < 18446744073709551615 }
+    ensures { result ≡ more_active active is_active }
 {
-    match host {
-        Some(host) => Ok(host),
+    if is_active { active + 1 } else { active }
+}
+
+// The table that was due; the line of this number is out of form where it says another.
+fn found(number: u32, table: Option<(u16, bool)>) -> Result<(u16, bool), Unread>
+    ensures { result ≡ found number table }
+{
+    match table {
+        Some(table) => Ok(table),
         None => Err(Unread::At(number)),
     }
 }
 
 // Reads so many tables, whose hosts rise.
-fn read_rising_tables(f: &Fabric, reader: &mut Reader, count: u64) -> Result<(), Unread>
-    ensures said { Passes (rising_tables count None reader.old.past f.now reader.old.left) reader.new.left result }
+fn read_rising_tables(f: &Fabric, reader: &mut Reader, count: u64) -> Result<u64, Unread>
+    ensures said { CountsActive (rising_tables count None reader.old.past f.now reader.old.left) reader.new.left
+        result }
     ensures read { IfOk result (λ _. HasRead reader.old reader.new 0) }
 {
     let mut before = None;
+    let mut active = 0;
     'lines: for _read in 0..count {
-        let host = read_rising_table(f, reader, before)?;
-        before = Some(host);
+        let table = read_rising_table(f, reader, before)?;
+        active = more_active(active, table.1);
+        before = Some(table);
     }
-    Ok(())
+    Ok(active)
 }
 
 // Reads the table of a host above the one before it.
-fn read_rising_table(f: &Fabric, reader: &mut Reader, before: Option<u16>) -> Result<u16, Unread>
+fn read_rising_table(
+    f: &Fabric,
+    reader: &mut Reader,
+    before: Option<(u16, bool)>,
+) -> Result<(u16, bool), Unread>
     ensures said { Gives (next_due (rising_table_due before) reader.old.past f.now reader.old.left) reader.new.left
         result }
     ensures read { IfOk result (λ _. HasRead reader.old reader.new 1) }

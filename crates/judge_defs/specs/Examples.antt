@@ -92,6 +92,18 @@ moved =
 abbrev pub adopted : List Answered
 adopted = answered (Install 1) (WithTables (0 ∷ 1 ∷ [])) ∷ []
 
+-- an installation that one host of two acknowledged, and whose table is active
+abbrev pub installed_text : List (List ℕ)
+installed_text = codes "installed 1 of 2" ∷ codes "table a active" ∷ codes "table b none" ∷ []
+
+-- more hosts acknowledged than there are
+abbrev pub above_text : List (List ℕ)
+above_text = codes "installed 3 of 2" ∷ codes "table a active" ∷ codes "table b active" ∷ []
+
+-- more hosts acknowledged than have an active table
+abbrev pub inactive_text : List (List ℕ)
+inactive_text = codes "installed 2 of 2" ∷ codes "table a active" ∷ codes "table b none" ∷ []
+
 -- the lines of broken routes
 abbrev pub broken_text : List (List ℕ)
 broken_text = codes "broken a b" ∷ codes "broken b a" ∷ codes "endbroken" ∷ []

@@ -1,6 +1,8 @@
 -- The form of a command's answer: which line may be its first, and which lines follow that one.
-use Rattle.std.specs.Prelude.{ℕ, zero, suc, ℤ, Bool, true, false, ◌&&◌, ◌||◌, List, [], ◌∷◌, length, nat_eq, nat_lt}
-use Rattle.std.specs.Prelude.{if◌then◌else◌, Option, Some, None, option_map, option_and_then, Result, Ok, Err, codes}
+use Rattle.std.specs.Prelude.{ℕ, zero, suc, ℤ, Bool, true, false, ◌&&◌, ◌||◌, List, [], ◌∷◌, map, length, nat_eq}
+use Rattle.std.specs.Prelude.{nat_le, nat_lt, if◌then◌else◌, Option, Some, None, option_map, option_and_then, Result}
+use Rattle.std.specs.Prelude.{Ok, Err, codes}
+use Rattle.std.specs.List.{filter, list_all}
 use Rattle.net_defs.specs.declared.route.Route.{Route}
 use Rattle.net_defs.specs.Network.{Network, same_end}
 use Rattle.port_graph.specs.Routes.{is_above}
@@ -91,7 +93,7 @@ may_answer (Circuit h depth) (CircuitLine g d) = nat_eq g h && nat_eq d depth
 may_answer (Circuit h depth) (CircuitNodes g) = nat_eq g h
 may_answer Routes (RoutesLine count) = true
 may_answer Routes NoMap = true
-may_answer (Install tries) (Installed count) = true
+may_answer (Install tries) (Installed acked count) = true
 may_answer (Install tries) InstallRefused = true
 may_answer (Plan ahead kind) PlanAt = true
 may_answer (Step line) StepLine = true
@@ -178,48 +180,71 @@ abbrev pub routes_block : ℕ → Option NetMap → ℕ → Network → List Tex
 routes_block count shown past n ls = and_then (route_lines count None past n ls) (λ rs.
     and_then (rank_lines shown None past n rs.1) (λ ks. Ok (WithRoutes rs.0 ks.0, ks.1)))
 
--- the table of this host
-abbrev pub table_due : ℕ → ReportLine → Option ℕ
-table_due h (Table g) = if nat_eq g h then Some g else None
+-- the table of this host, and whether it is active
+abbrev pub table_due : ℕ → ReportLine → Option (ℕ × Bool)
+table_due h (Table g active) = if nat_eq g h then Some (g, active) else None
 table_due h l = None
 
 -- the tables of these hosts
-abbrev pub table_lines : List ℕ → ℕ → Network → List TextLine → Reads (List ℕ)
+abbrev pub table_lines : List ℕ → ℕ → Network → List TextLine → Reads (List (ℕ × Bool))
 table_lines [] past n ls = Ok ([], ls)
 table_lines (h ∷ hs) past n ls = and_then (next_due (table_due h) past n ls) (λ g.
     and_then (table_lines hs past n g.1) (λ gs. Ok (g.0 ∷ gs.0, gs.1)))
 
 -- an address is above the one before it
-abbrev pub is_address_above : Option ℕ → ℕ → Bool
+abbrev pub is_address_above : Option (ℕ × Bool) → ℕ → Bool
 is_address_above None h = true
-is_address_above (Some g) h = nat_lt g h
+is_address_above (Some g) h = nat_lt g.0 h
 
 -- the table of a host above the one before it
-abbrev pub rising_table_due : Option ℕ → ReportLine → Option ℕ
-rising_table_due before (Table h) = if is_address_above before h then Some h else None
+abbrev pub rising_table_due : Option (ℕ × Bool) → ReportLine → Option (ℕ × Bool)
+rising_table_due before (Table h active) = if is_address_above before h then Some (h, active) else None
 rising_table_due before l = None
 
 -- so many tables, whose hosts rise
-abbrev pub rising_tables : ℕ → Option ℕ → ℕ → Network → List TextLine → Reads (List ℕ)
+abbrev pub rising_tables : ℕ → Option (ℕ × Bool) → ℕ → Network → List TextLine → Reads (List (ℕ × Bool))
 rising_tables zero before past n ls = Ok ([], ls)
 rising_tables (suc k) before past n ls = and_then (next_due (rising_table_due before) past n ls) (λ g.
     and_then (rising_tables k (Some g.0) past n g.1) (λ gs. Ok (g.0 ∷ gs.0, gs.1)))
 
 -- the tables after `installed K of N`, whose line has this number: those of the hosts of the last routes, or, where
 -- none were shown, of any
-abbrev pub tables_of : ℕ → ℕ → Option (List ℕ) → ℕ → Network → List TextLine → Reads (List ℕ)
+abbrev pub tables_of : ℕ → ℕ → Option (List ℕ) → ℕ → Network → List TextLine → Reads (List (ℕ × Bool))
 tables_of number count None past n ls = rising_tables count None past n ls
 tables_of number count (Some hosts) past n ls =
     if nat_eq count (length hosts) then table_lines hosts past n ls else Err number
 
--- the tables as an answer
-abbrev pub tables_block : Reads (List ℕ) → Reads Answer
-tables_block gs = and_then gs (λ g. Ok (WithTables g.0, g.1))
+-- how many of these tables are active
+abbrev pub active_count : List (ℕ × Bool) → ℕ
+active_count tables = length (filter (λ t. t.1) tables)
+
+-- the tables as an answer, where K of `installed K of N`, whose line has this number, isn't above the number of those
+-- that are active: each host that acknowledged all parts of its table has an active one
+abbrev pub tables_where : ℕ → ℕ → List (ℕ × Bool) → List TextLine → Reads Answer
+tables_where number acked tables ls =
+    if nat_le acked (active_count tables) then Ok (WithTables (map (λ t. t.0) tables), ls) else Err number
+
+-- the same of tables that are read
+abbrev pub tables_block : ℕ → ℕ → Reads (List (ℕ × Bool)) → Reads Answer
+tables_block number acked ts = and_then ts (λ t. tables_where number acked t.0 t.1)
 
 -- the map after a line, as an answer
 abbrev pub map_block : ReportLine → Result MapPart FirstFault → Reads Answer
 map_block l (Ok part) = Ok (WithMap l part.made, part.after)
 map_block l (Err fault) = Err fault.line
+
+-- no vertex of a map is marked `outside`
+abbrev pub is_all_core : NetMap → Bool
+is_all_core m = list_all (λ c. c) m.core
+
+-- a map of circuit links after its line, which has this number: it is shown without what is outside
+abbrev pub circuit_where : ℕ → ReportLine → NetMap → List TextLine → Reads Answer
+circuit_where number l m ls = if is_all_core m then Ok (WithMap l m, ls) else Err number
+
+-- the same of lines that are read
+abbrev pub circuit_block : ℕ → ReportLine → Result MapPart FirstFault → Reads Answer
+circuit_block number l (Ok part) = circuit_where number l part.made part.after
+circuit_block number l (Err fault) = Err fault.line
 
 -- the hosts that a line `broken` names, which may be called `refused` and `noroutes`
 abbrev pub pair_in : Network → ReportLine → Option (ℕ × ℕ)
@@ -288,9 +313,10 @@ known_by n before = record {
 abbrev pub block_of : ℕ → ReportLine → Known → ℕ → Network → List TextLine → Reads Answer
 block_of number (MapLine h Overgrown) k past n ls = Ok (Alone (MapLine h Overgrown), ls)
 block_of number (MapLine h said) k past n ls = map_block (MapLine h said) (map_part past n ls)
-block_of number (CircuitLine h depth) k past n ls = map_block (CircuitLine h depth) (map_part past n ls)
+block_of number (CircuitLine h depth) k past n ls = circuit_block number (CircuitLine h depth) (map_part past n ls)
 block_of number (RoutesLine count) k past n ls = routes_block count k.shown past n ls
-block_of number (Installed count) k past n ls = tables_block (tables_of number count k.routed past n ls)
+block_of number (Installed acked count) k past n ls =
+    tables_block number acked (tables_of number count k.routed past n ls)
 block_of number (BrokenLine from to) k past n ls = broken_block (from, to) past n ls
 block_of number EndBroken k past n ls = Ok (WithBroken [], ls)
 block_of number NoBroken k past n ls = refused_block k.adopted (pair_in n NoBroken) past n ls

@@ -8,32 +8,34 @@ ghost use Rattle.judge_defs.specs.Form.{pair_in, pair_due, is_pair_above, is_end
 use port_graph::Fabric;
 use report_lines::{ReportLine, host};
 
-/// The host of a table, where it is due.
-pub fn table_due(due: u16, line: &ReportLine) -> Option<u16>
+/// The host of a table, where it is due, and whether the table is active.
+pub fn table_due(due: u16, line: &ReportLine) -> Option<(u16, bool)>
     ensures { result ≡ table_due due line.now }
 {
     match line {
-        ReportLine::Table(host) if *host == due => Some(*host),
+        ReportLine::Table { host, active } if *host == due => Some((*host, *active)),
         _ => None,
     }
 }
 
-/// The host of a table, where it is above the one before it.
-pub fn rising_table_due(before: Option<u16>, line: &ReportLine) -> Option<u16>
+/// The host of a table, where it is above the one before it, and whether the table is active.
+pub fn rising_table_due(before: Option<(u16, bool)>, line: &ReportLine) -> Option<(u16, bool)>
     ensures { result ≡ rising_table_due before line.now }
 {
     match line {
-        ReportLine::Table(host) if is_address_above(before, *host) => Some(*host),
+        ReportLine::Table { host, active } if is_address_above(before, *host) => {
+            Some((*host, *active))
+        }
         _ => None,
     }
 }
 
 // Whether an address is above the one before it.
-fn is_address_above(before: Option<u16>, host: u16) -> bool
+fn is_address_above(before: Option<(u16, bool)>, host: u16) -> bool
     ensures { result ≡ is_address_above before host }
 {
     match before {
-        Some(b) => b < host,
+        Some(b) => b.0 < host,
         None => true,
     }
 }

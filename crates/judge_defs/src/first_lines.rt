@@ -88,7 +88,7 @@ fn is_of_installation(line: &ReportLine) -> bool
     ensures { (tries : ℕ) → result ≡ may_answer (Install tries) line.now }
 {
     match line {
-        ReportLine::Installed(_) => true,
+        ReportLine::Installed { .. } => true,
         ReportLine::InstallRefused => true,
         _ => false,
     }

@@ -26,6 +26,6 @@ pub use answer_defs::Why;
 pub use due_lines::{
     is_end_of_broken, is_end_of_routes, pair_due, refused_pair, rising_table_due, table_due,
 };
-pub use examples::{message_with_its_token, moved_cable, routes_that_broke};
+pub use examples::{counted_tables, message_with_its_token, moved_cable, routes_that_broke};
 pub use first_lines::may_answer;
 pub use law::{one_line_fails_first, yes_excludes_no};

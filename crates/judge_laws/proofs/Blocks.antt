@@ -111,20 +111,20 @@ module _ (n : Network) (is : IsFabric n) (good : AreNamed n) (past : ℕ) where
 
   -- tables
   pub tables-first : (active : ℕ → Bool) (hosts : List ℕ) (number : ℕ) (rest : List ℕ) → AllByRecursion (IsHost n) hosts
-      → IsLeft (table_lines hosts past n) hosts number (output_text n (lines (map (λ h. Table h (active h)) hosts)) ++ rest) rest
+      → IsLeft (table_lines hosts past n) (map (λ h. (h, active h)) hosts) number (output_text n (lines (map (λ h. Table h (active h)) hosts)) ++ rest) rest
   tables-first active [] number rest all = (number, refl)
   tables-first active (h ∷ hs) number rest all =
       let l = Table h (active h) in
       let behind = output_text n (lines (map (λ g. Table g (active g)) hs)) ++ rest in
-      let first = line-first n l (TableSaid h) number behind is good (table_line h (active h) all.0) in
+      let first = line-first n l (TableSaid h (active h)) number behind is good (table_line h (active h) all.0) in
       let same : nat_eq h h ≡ true = (Decides-eqb h h).1 refl in
-      let due : table_due h (TableSaid h) ≡ Some h = λ i. if same i then Some h else None in
-      let one = next-read (table_due h) n (TableSaid h) h past number (line_text n l ++ behind) behind first due in
+      let due : table_due h (TableSaid h (active h)) ≡ Some (h, active h) = λ i. if same i then Some (h, active h) else None in
+      let one = next-read (table_due h) n (TableSaid h (active h)) (h, active h) past number (line_text n l ++ behind) behind first due in
       let others = tables-first active hs (number + 1) rest all.1 in (
         others.0,
         ap (λ t. table_lines (h ∷ hs) past n (lines_at number t)) (output-more n (OneLine l) (lines (map (λ g. Table g (active g)) hs)) rest)
-            ∙ ap (λ (o : Reads ℕ). and_then o (λ g. and_then (table_lines hs past n g.1) (λ gs. Ok (g.0 ∷ gs.0, gs.1)))) one
-            ∙ ap (λ (o : Reads (List ℕ)). and_then o (λ gs. Ok (h ∷ gs.0, gs.1))) others.1,
+            ∙ ap (λ (o : Reads (ℕ × Bool)). and_then o (λ g. and_then (table_lines hs past n g.1) (λ gs. Ok (g.0 ∷ gs.0, gs.1)))) one
+            ∙ ap (λ (o : Reads (List (ℕ × Bool))). and_then o (λ gs. Ok ((h, active h) ∷ gs.0, gs.1))) others.1,
       )
 
   -- A line of a broken route says its pair, whatever its hosts are called.

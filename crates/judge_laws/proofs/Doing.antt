@@ -1,8 +1,8 @@
 -- What commands print is an answer, by what is known of the session before them.
-use Rattle.std.proofs.Common.{◌≡◌, ◌≢◌, ℕ, Bool, true, false, not, ◌&&◌, List, [], ◌∷◌, ◌++◌, map, length, nat_eq, nat_lt, min, Option, Some, None, option_map, is_some, Ok, cond, refl, sym, ap, ◌∙◌, subst, arith, if◌then◌else◌}
+use Rattle.std.proofs.Common.{◌≡◌, ◌≢◌, ◌≤◌, ℕ, Bool, true, false, not, ◌&&◌, List, [], ◌∷◌, ◌++◌, map, length, nat_eq, nat_lt, min, Option, Some, None, option_map, is_some, Ok, cond, refl, sym, ap, ◌∙◌, subst, arith, if◌then◌else◌}
 use Rattle.std.specs.Prelude.{ℤ, slice_get}
 use Rattle.std.specs.Option.{option_map_or}
-use Rattle.std.specs.List.{AllByRecursion, filter, list_any, range_with_len}
+use Rattle.std.specs.List.{AllByRecursion, filter, list_all, list_any, range_with_len}
 use Rattle.std.proofs.lemmas.Bool.Decides.{Decides-eqb}
 use Rattle.net_defs.specs.declared.vertex.Vertex.{Vertex}
 use Rattle.net_defs.specs.declared.vertex.Vertex.TheVariants.{Host, Switch}
@@ -20,6 +20,7 @@ use Rattle.cable_history.proofs.Now.{now_is_fabric}
 use Rattle.fabric_file.proofs.Names.{vertex-there}
 use Rattle.fab_script.specs.Ranges.{IsHost, IsEnd}
 use Rattle.link_defs.specs.Links.{is_idle}
+use Rattle.map_defs.specs.declared.vertex.MapVertex.{MapVertex}
 use Rattle.map_defs.specs.NetMap.{NetMap, hosts_of}
 use Rattle.map_defs.specs.Orientation.{order_of}
 use Rattle.map_defs.specs.Routing.{AreRoutesOf}
@@ -97,6 +98,20 @@ plug_done s a b r = says_in s (PlugLine a b (words_of_plug s.world a b) ∷ []) 
 
 abbrev pub revoke_done : SessionState → List Effect × WorldState → Outcome
 revoke_done s r = says_in s (Revoked (length (filter is_done r.0)) ∷ []) r.1
+
+-- no more hosts are counted than have an active table then
+abbrev pub HasTables : List ℕ → Log ℕ → Type 0
+HasTables hosts r = r.value ≤ length (filter (λ h. is_some (active_epoch (node_at r.world h).table)) hosts)
+
+-- so it is where the last routes may be installed
+abbrev pub CountsTables : SessionState → ℕ → Type 0
+CountsTables s tries =
+    (l : LastRoutes) → s.last_routes ≡ Some l → is_idle s.world.links ≡ true → may_install s.world l ≡ true → HasTables l.hosts (installation s.world l tries)
+
+-- every vertex is of the core
+marks-true : (vertices : List MapVertex) → list_all (λ c. c) (map (λ v. true) vertices) ≡ true
+marks-true [] = refl
+marks-true (v ∷ vs) = marks-true vs
 
 -- what a determined outcome prints is an answer
 abbrev pub AnsweredIn : Network → List Answered → SessionState → Command → Option Outcome → Type 0
@@ -311,12 +326,12 @@ module _ (n : Network) (before : List Answered) (s : SessionState) (told : IsTol
   refused-answered tries cause = stays-answered (Install tries) (InstallRefused cause) InstallRefusedSaid (install_refused cause) refl refl (λ o. refl) (λ o. refl) (record { told = refl; lengths = tt; places = λ past. tt }) tt refl
 
   -- one that is made: routes are adopted
-  done-answered : (tries : ℕ) (l : LastRoutes) (r : Log ℕ) → s.last_routes ≡ Some l → IsCounted (length l.hosts) → AllByRecursion (IsHost n) l.hosts → is_some r.world.adopted ≡ true → (HasNoPull s.world → fabric_of s.world ≡ fabric_of r.world) → (HasNoPull s.world → HasNoPull r.world)
+  done-answered : (tries : ℕ) (l : LastRoutes) (r : Log ℕ) → s.last_routes ≡ Some l → HasTables l.hosts r → IsCounted (length l.hosts) → AllByRecursion (IsHost n) l.hosts → is_some r.world.adopted ≡ true → (HasNoPull s.world → fabric_of s.world ≡ fabric_of r.world) → (HasNoPull s.world → HasNoPull r.world)
       → AnsweredIn n before s (Install tries) (Some (says_in s (install_lines l.hosts r) r.world))
-  done-answered tries l r are few all adopted fabric plan =
+  done-answered tries l r are enough few all adopted fabric plan =
       let active : ℕ → Bool = λ h. is_some (active_epoch (node_at r.world h).table) in record {
         a = WithTables l.hosts;
-        printed = with_tables tries r.value active l.hosts (told.routed ∙ ap (option_map (λ (x : LastRoutes). x.hosts)) are) few all refl;
+        printed = with_tables tries r.value active l.hosts (told.routed ∙ ap (option_map (λ (x : LastRoutes). x.hosts)) are) enough few all refl;
         told = record { complete = told.complete; shown = told.shown; routed = told.routed; adopted = sym adopted };
         nothing = record { told = refl; lengths = tt; places = λ past. tt };
         maps = tt;
@@ -325,20 +340,20 @@ module _ (n : Network) (before : List Answered) (s : SessionState) (told : IsTol
         unpulled = λ still safe. plan still;
       }
 
-  pub install-answered : (tries : ℕ) (o : Option LastRoutes) → s.last_routes ≡ o → ((l : LastRoutes) → s.last_routes ≡ Some l → IsCounted (length l.hosts) × AllByRecursion (IsHost n) l.hosts) → AnsweredIn n before s (Install tries) (Some (seen s (install s.world tries o)))
-  install-answered tries None are hosts = refused-answered tries NoRoutes
-  install-answered tries (Some l) are hosts = by (not (is_idle s.world.links)) (not (may_install s.world l))
+  pub install-answered : (tries : ℕ) (o : Option LastRoutes) → s.last_routes ≡ o → CountsTables s tries → ((l : LastRoutes) → s.last_routes ≡ Some l → IsCounted (length l.hosts) × AllByRecursion (IsHost n) l.hosts) → AnsweredIn n before s (Install tries) (Some (seen s (install s.world tries o)))
+  install-answered tries None are enough hosts = refused-answered tries NoRoutes
+  install-answered tries (Some l) are enough hosts = by (is_idle s.world.links) (may_install s.world l) refl refl
     where
-      by : (busy other : Bool) → AnsweredIn n before s (Install tries) (Some (seen s (if busy then says (InstallRefused Busy ∷ []) else if other then says (InstallRefused (refusal_cause s.world l) ∷ []) else install_now s.world l tries)))
-      by true other = refused-answered tries Busy
-      by false true = refused-answered tries (refusal_cause s.world l)
-      by false false =
+      by : (idle may : Bool) → is_idle s.world.links ≡ idle → may_install s.world l ≡ may → AnsweredIn n before s (Install tries) (Some (seen s (if not idle then says (InstallRefused Busy ∷ []) else if not may then says (InstallRefused (refusal_cause s.world l) ∷ []) else install_now s.world l tries)))
+      by false may p q = refused-answered tries Busy
+      by true false p q = refused-answered tries (refusal_cause s.world l)
+      by true true p q =
           let w : WorldState = adopted_by s.world l.mapper l.routes in
           let r = installation s.world l tries in
           let there = hosts l are in
           let quiet = install-still (set_of s.world l) l.hosts tries w in
           subst (λ v. IsAnsweredBy n before s (Install tries) (lines (install_lines l.hosts r)) (record s { world = v })) (sym (acted-installation s.world l tries))
-          (done-answered tries l r are there.0 there.1 (ap is_some (installed-set (set_of s.world l) l.hosts tries w))
+          (done-answered tries l r are (enough l are p q) there.0 there.1 (ap is_some (installed-set (set_of s.world l) l.hosts tries w))
           (λ still. sym (adopted-fabric s.world l.mapper l.routes) ∙ fabric-same w r.world (quiet still)) (λ still. (quiet still).plan))
 
   -- a map that is made
@@ -347,7 +362,7 @@ module _ (n : Network) (before : List Answered) (s : SessionState) (told : IsTol
       → IsAnsweredBy n before s (Map host depth tries) out (record s { world = after; last_map = Some (record { mapper = host; words = words; made = m; began = began }) })
   map-answered host depth tries asks packets m Complete began after out there read right same quiet e = record {
     a = WithMap (MapRead host SaidComplete) m;
-    printed = with_map (Map host depth tries) (MapLine host Complete asks packets) (MapRead host SaidComplete) m (map_line host Complete asks packets there) (host-same host) refl (read [] refl) e;
+    printed = with_map (Map host depth tries) (MapLine host Complete asks packets) (MapRead host SaidComplete) m (map_line host Complete asks packets there) (host-same host) refl refl (read [] refl) e;
     told = record { complete = refl; shown = refl; routed = told.routed; adopted = told.adopted ∙ ap is_some (sym same) };
     nothing = record { told = refl; lengths = tt; places = λ past. tt };
     maps = right refl;
@@ -357,7 +372,7 @@ module _ (n : Network) (before : List Answered) (s : SessionState) (told : IsTol
   }
   map-answered host depth tries asks packets m (Doubtful drowned) began after out there read right same quiet e = record {
     a = WithMap (MapRead host SaidDoubtful) m;
-    printed = with_map (Map host depth tries) (MapLine host (Doubtful drowned) asks packets) (MapRead host SaidDoubtful) m (map_line host (Doubtful drowned) asks packets there) (host-same host) refl (read [] refl) e;
+    printed = with_map (Map host depth tries) (MapLine host (Doubtful drowned) asks packets) (MapRead host SaidDoubtful) m (map_line host (Doubtful drowned) asks packets there) (host-same host) refl refl (read [] refl) e;
     told = record { complete = refl; shown = refl; routed = told.routed; adopted = told.adopted ∙ ap is_some (sym same) };
     nothing = record { told = refl; lengths = tt; places = λ past. tt };
     maps = tt;
@@ -367,7 +382,7 @@ module _ (n : Network) (before : List Answered) (s : SessionState) (told : IsTol
   }
   map-answered host depth tries asks packets m IncompleteDepth began after out there read right same quiet e = record {
     a = WithMap (MapRead host Shallow) m;
-    printed = with_map (Map host depth tries) (MapLine host IncompleteDepth asks packets) (MapRead host Shallow) m (map_line host IncompleteDepth asks packets there) (host-same host) refl (read [] refl) e;
+    printed = with_map (Map host depth tries) (MapLine host IncompleteDepth asks packets) (MapRead host Shallow) m (map_line host IncompleteDepth asks packets there) (host-same host) refl refl (read [] refl) e;
     told = record { complete = refl; shown = refl; routed = told.routed; adopted = told.adopted ∙ ap is_some (sym same) };
     nothing = record { told = refl; lengths = tt; places = λ past. tt };
     maps = tt;
@@ -393,7 +408,7 @@ module _ (n : Network) (before : List Answered) (s : SessionState) (told : IsTol
       let l = CircuitLine host depth (length j) in
       let may : may_answer (Circuit host depth) (CircuitSaid host depth) ≡ true = λ i. host-same host i && host-same depth i in record {
         a = WithMap (CircuitSaid host depth) m;
-        printed = with_map (Circuit host depth) l (CircuitSaid host depth) m (circuit_line host depth (length j) there fits) may refl (read m l printed) printed;
+        printed = with_map (Circuit host depth) l (CircuitSaid host depth) m (circuit_line host depth (length j) there fits) may refl (ap (list_all (λ c. c)) is.without_outside.all_core ∙ marks-true m.vertices) (read m l printed) printed;
         told = record { complete = told.complete; shown = told.shown; routed = told.routed; adopted = told.adopted };
         nothing = record { told = refl; lengths = tt; places = λ past. tt };
         maps = tt;

@@ -49,7 +49,7 @@ filter-all P p (x ∷ xs) all = by (p x) (filter-all P p xs all.1)
     by true rest = (all.0, rest)
     by false rest = rest
 
-filter-few : (p : ℕ → Bool) (xs : List ℕ) → length (filter p xs) ≤ length xs
+pub filter-few : (p : ℕ → Bool) (xs : List ℕ) → length (filter p xs) ≤ length xs
 filter-few p [] = omega arith
 filter-few p (x ∷ xs) = by (p x) (filter-few p xs)
   where

@@ -124,7 +124,7 @@ module _ (n : Network) (is : IsFabric n) (good : AreNamed n) where
   line-plain l r (rank_line v p rank there turn fits) = (refl, (map_vertex-plain n is good v there, (turn-plain p, (number-plain rank, tt))))
   line-plain l r end_of_routes = (refl, tt)
   line-plain l r no_map = (refl, (refl, (refl, tt)))
-  line-plain l r (installed_line acked count fits) = (refl, (number-plain acked, (refl, (number-plain count, tt))))
+  line-plain l r (installed_line acked count most fits) = (refl, (number-plain acked, (refl, (number-plain count, tt))))
   line-plain l r (table_line h true there) = (refl, (host-plain n is good h there, (refl, tt)))
   line-plain l r (table_line h false there) = (refl, (host-plain n is good h there, (refl, tt)))
   line-plain l r (install_refused cause) = (refl, (refl, (cause-plain cause, tt)))
@@ -163,7 +163,7 @@ line-begins n l r (route_line from to walk sender receiver fine) = refl
 line-begins n l r (rank_line v p rank there turn fits) = refl
 line-begins n l r end_of_routes = refl
 line-begins n l r no_map = refl
-line-begins n l r (installed_line acked count fits) = refl
+line-begins n l r (installed_line acked count most fits) = refl
 line-begins n l r (table_line h active there) = refl
 line-begins n l r (install_refused cause) = refl
 line-begins n l r (call_line call h port s q there low c) = call-begins call (host_name n h ∷ decimal port ∷ said_words n s)

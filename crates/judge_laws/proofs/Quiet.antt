@@ -105,7 +105,7 @@ says-quiet n c l r none (says_route from to walk sender receiver fine) may = rec
 says-quiet n c l r none (says_rank v p rank there turn fits) may = record { received = λ i p. refl; answers = refl }
 says-quiet n c l r none end_of_routes may = record { received = λ i p. refl; answers = refl }
 says-quiet n c l r none no_map may = record { received = λ i p. refl; answers = refl }
-says-quiet n c l r none (installed_line acked count fits) may = record { received = λ i p. refl; answers = refl }
+says-quiet n c l r none (installed_line acked count most fits) may = record { received = λ i p. refl; answers = refl }
 says-quiet n c l r none (table_line h active there) may = record { received = λ i p. refl; answers = refl }
 says-quiet n c l r none (install_refused cause) may = record { received = λ i p. refl; answers = refl }
 says-quiet n c l r none (plan_line number) may = record { received = λ i p. refl; answers = refl }
@@ -123,7 +123,7 @@ says-quiet n c l r none no_broken may = record { received = λ i p. refl; answer
 -- and the pieces of its answer
 pub answer-quiet : (n : Network) (k : Known) (out : List Piece) (c : Command) (a : Answer) → is_of_network c ≡ true → IsPrintedAnswer n k out c a → IsQuiet out
 answer-quiet n k out c a kind (alone d l r says may only e) = subst IsQuiet (sym e) (quiet-then l [] (says-quiet n d l r (no-calls d kind) says may) quiet-none)
-answer-quiet n k out c a kind (with_map d l r m says may has back e) = subst IsQuiet (sym e) (quiet-then l (MapLines m ∷ []) (says-quiet n d l r (no-calls d kind) says may) (quiet-map m [] quiet-none))
+answer-quiet n k out c a kind (with_map d l r m says may has shows back e) = subst IsQuiet (sym e) (quiet-then l (MapLines m ∷ []) (says-quiet n d l r (no-calls d kind) says may) (quiet-map m [] quiet-none))
 answer-quiet n k out c a kind (with_routes m found ranks shown counted all rising each growing e) =
     let routes = quiet-mapped route_line found (λ r. record { received = λ i p. refl; answers = refl }) in
     let others = quiet-mapped (rank_line m) ranks (λ r. record { received = λ i p. refl; answers = refl }) in
@@ -131,7 +131,7 @@ answer-quiet n k out c a kind (with_routes m found ranks shown counted all risin
     let all_of : AllByRecursion IsQuietLine (Routes (length found) ∷ map route_line found ++ map (rank_line m) ranks ++ EndRoutes ∷ []) =
     (record { received = λ i p. refl; answers = refl }, all-join IsQuietLine (map route_line found ++ map (rank_line m) ranks) (EndRoutes ∷ []) (all-join IsQuietLine (map route_line found) (map (rank_line m) ranks) routes others) last) in
     subst IsQuiet (sym e) (quiet-lines (Routes (length found) ∷ map route_line found ++ map (rank_line m) ranks ++ EndRoutes ∷ []) all_of)
-answer-quiet n k out c a kind (with_tables tries acked active hosts routed counted all e) =
+answer-quiet n k out c a kind (with_tables tries acked active hosts routed enough counted all e) =
     subst IsQuiet (sym e) (quiet-lines (Installed acked (length hosts) ∷ map (λ h. Table h (active h)) hosts) (record { received = λ i p. refl; answers = refl }, quiet-mapped (λ h. Table h (active h)) hosts (λ h. record { received = λ i p. refl; answers = refl })))
 answer-quiet n k out c a kind (with_broken pairs adopted rising e) =
     subst IsQuiet (sym e) (quiet-lines (map (λ p. Broken p.0 p.1) pairs ++ EndBroken ∷ [])

@@ -1,5 +1,6 @@
 -- Each printed line is read as what it says.
-use Rattle.std.proofs.Common.{◌≡◌, ◌≤◌, ◌&&◌, ◌++◌, ℕ, List, [], ◌∷◌, true, false, map, length, nat_le, Some, None, option_map, is_some, refl, ap, ◌∙◌, arith, if◌then◌else◌}
+use Rattle.std.proofs.Common.{◌≡◌, ◌≤◌, ◌<◌, ◌^◌, ◌&&◌, ◌++◌, ℕ, List, [], ◌∷◌, true, false, map, length, nat_le, Some, None, option_map, is_some, refl, ap, ◌∙◌, arith, if◌then◌else◌}
+use Rattle.std.proofs.lemmas.Bool.Decides.{nat_tests}
 use Rattle.std.specs.Prelude.{ℤ, codes, decimal, bytes_eq, option_and_then}
 use Rattle.std.proofs.lemmas.List.{length-map}
 use Rattle.net_defs.specs.declared.vertex.Vertex.TheVariants.{Switch}
@@ -30,11 +31,11 @@ use Rattle.run_defs.specs.declared.line.Line.TheVariants.{Walk, Map, Route, Clie
 use Rattle.run_defs.specs.LineText.{host_name, turn_text, hex_text, client_cause, said_words, heard_word, cause_word, step_words, install_cause, place_text, words_in}
 use Rattle.report_lines.specs.declared.line.MapSaid.TheVariants.{Complete as SaidComplete, Doubtful as SaidDoubtful, Shallow, Overgrown}
 use Rattle.report_lines.specs.declared.line.ReportLine.{ReportLine}
-use Rattle.report_lines.specs.declared.line.ReportLine.TheVariants.{Walk as WalkSaid, Map as MapRead, CircuitNodes as NodesSaid, Routes as RoutesSaid, NoMap as NoMapSaid, Route as RouteSaid, Installed as InstalledSaid, Table as TableSaid}
+use Rattle.report_lines.specs.declared.line.ReportLine.TheVariants.{Walk as WalkSaid, Map as MapRead, CircuitNodes as NodesSaid, Routes as RoutesSaid, NoMap as NoMapSaid, Route as RouteSaid, Installed as InstalledSaid}
 use Rattle.report_lines.specs.declared.line.ReportLine.TheVariants.{InstallRefused as InstallRefusedSaid, Closed, Provided, Accepted, Returned, CallRefused, PlanAt as PlanSaid, Step as StepSaid}
 use Rattle.report_lines.specs.declared.line.ReportLine.TheVariants.{Settle as SettleSaid, Finish as FinishSaid, Revoked as RevokedSaid, NoBroken as NoBrokenSaid}
 use Rattle.report_lines.specs.Words.{host_said, value_said}
-use Rattle.report_lines.specs.Forms.{where_so, is_only, map_at, are_counts, circuit_at, circuit_line as depth_line, are_asks, route_of, route_unless, rank_of, pull_at, plug_at, broken_at, is_install_cause, is_heard_word, is_cause_word, is_effect}
+use Rattle.report_lines.specs.Forms.{where_so, is_only, map_at, are_counts, circuit_at, circuit_line as depth_line, are_asks, route_of, route_unless, rank_of, installed_where, table_of, pull_at, plug_at, broken_at, is_install_cause, is_heard_word, is_cause_word, is_effect}
 use Rattle.report_lines.specs.Bytes.{bytes_said}
 use Rattle.report_lines.specs.Calls.{port_at, port_said, refused_said, at_port_said, came_from, message_of, tokens_of}
 use Rattle.report_lines.specs.Lines.{line_said}
@@ -182,11 +183,13 @@ module _ (n : Network) (is : IsFabric n) (good : AreNamed n) where
       λ i. rank_of (map_vertex-read n is good v there i) (port-read p turn i) (counted-read rank fits i)
   line-read l r end_of_routes = refl
   line-read l r no_map = refl
-  line-read l r (installed_line acked count fits) =
-      (λ i. if number-any acked i && true then option_map InstalledSaid (value_said (decimal count)) else None)
-      ∙ ap (option_map InstalledSaid) (counted-read count fits)
-  line-read l r (table_line h true there) = ap (option_map TableSaid) (host-read n is good h there)
-  line-read l r (table_line h false there) = ap (option_map TableSaid) (host-read n is good h there)
+  line-read l r (installed_line acked count most fits) =
+      let few : acked < 2 ^ 64 = omega (arith, most, fits) in
+      let test : nat_le acked count ≡ true = grind (arith, nat_tests) in
+      (λ i. installed_where (counted-read acked few i) (counted-read count fits i))
+      ∙ (λ i. if test i then Some (InstalledSaid acked count) else None)
+  line-read l r (table_line h true there) = ap (λ o. table_of o (Some true)) (host-read n is good h there)
+  line-read l r (table_line h false there) = ap (λ o. table_of o (Some false)) (host-read n is good h there)
   line-read l r (install_refused cause) = λ i. where_so InstallRefusedSaid (true && cause-read cause i)
   line-read l r (call_line call h port said s there low c) = call-read h port there low call said r c
   line-read l r (tokens_line h port sends recvs there low first second) =

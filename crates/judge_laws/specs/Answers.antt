@@ -1,7 +1,7 @@
 -- Which pieces of a report are the answer of a command, and what answer they are.
-use Rattle.std.specs.Prelude.{◌≡◌, ℕ, Bool, true, false, not, List, [], ◌∷◌, ◌++◌, map, length, slice_get, Option}
+use Rattle.std.specs.Prelude.{◌≡◌, ℕ, ◌≤◌, Bool, true, false, not, List, [], ◌∷◌, ◌++◌, map, length, slice_get, Option}
 use Rattle.std.specs.Prelude.{Some, None, Ok}
-use Rattle.std.specs.List.{AllByRecursion}
+use Rattle.std.specs.List.{AllByRecursion, filter}
 use Rattle.net_defs.specs.declared.route.Route.{Route}
 use Rattle.net_defs.specs.Network.{Network}
 use Rattle.net_defs.specs.Turn.{IsTurn, walk_refusal}
@@ -27,7 +27,7 @@ use Rattle.report_lines.specs.declared.line.ReportLine.TheVariants.{Broken as Br
 use Rattle.report_lines.specs.declared.line.ReportLine.TheVariants.{NoBroken as NoBrokenSaid}
 use Rattle.map_canon.specs.Reading.{map_reading}
 use Rattle.answer_defs.specs.Answer.{Answer, Alone, WithMap, WithRoutes, WithTables, WithBroken}
-use Rattle.judge_defs.specs.Form.{Known, may_answer, vertex_told, is_rank_above, is_pair_above}
+use Rattle.judge_defs.specs.Form.{Known, may_answer, vertex_told, is_rank_above, is_all_core, is_pair_above}
 use Rattle.judge_laws.specs.Lines.{Says, IsVertexIn, IsCounted}
 
 -- a line with the lines of a map after it
@@ -37,12 +37,17 @@ has_map (MapRead h said) = true
 has_map (CircuitSaid h depth) = true
 has_map r = false
 
+-- a line's map may be this one: after a line of circuit links all of it is core
+abbrev pub may_show : ReportLine → NetMap → Bool
+may_show (CircuitSaid h depth) m = is_all_core m
+may_show r m = true
+
 -- a line that is an answer alone, by whether routes are adopted
 abbrev pub is_alone : Bool → ReportLine → Bool
 is_alone adopted (MapRead h said) = not (has_map (MapRead h said))
 is_alone adopted (CircuitSaid h depth) = false
 is_alone adopted (RoutesSaid count) = false
-is_alone adopted (InstalledSaid count) = false
+is_alone adopted (InstalledSaid acked count) = false
 is_alone adopted (BrokenSaid from to) = false
 is_alone adopted EndBrokenSaid = false
 is_alone adopted NoBrokenSaid = not adopted
@@ -101,14 +106,14 @@ pub data IsPrintedAnswer (n : Network) (k : Known) (out : List Piece) : Command 
   alone : (c : Command) (l : Line) (r : ReportLine) → Says n l r → may_answer c r ≡ true
       → is_alone k.adopted r ≡ true → out ≡ OneLine l ∷ [] → IsPrintedAnswer n k out c (Alone r)
   with_map : (c : Command) (l : Line) (r : ReportLine) (m : NetMap) → Says n l r → may_answer c r ≡ true
-      → has_map r ≡ true → map_reading n (map_text n m) ≡ Ok m
+      → has_map r ≡ true → may_show r m ≡ true → map_reading n (map_text n m) ≡ Ok m
       → out ≡ OneLine l ∷ MapLines m ∷ [] → IsPrintedAnswer n k out c (WithMap r m)
   with_routes : (m : NetMap) (found : List Route) (ranks : List RankEntry) → k.shown ≡ Some m
       → IsCounted (length found) → AllByRecursion (IsRouteIn n) found → AreRoutesRising None found
       → AllByRecursion (IsRankIn n m) ranks → AreRanksRising m None ranks
       → out ≡ routes_pieces m found ranks → IsPrintedAnswer n k out RoutesCommand (WithRoutes found ranks)
   with_tables : (tries acked : ℕ) (active : ℕ → Bool) (hosts : List ℕ) → k.routed ≡ Some hosts
-      → IsCounted (length hosts) → AllByRecursion (IsHost n) hosts
+      → acked ≤ length (filter active hosts) → IsCounted (length hosts) → AllByRecursion (IsHost n) hosts
       → out ≡ tables_pieces acked active hosts → IsPrintedAnswer n k out (Install tries) (WithTables hosts)
   with_broken : (pairs : List (ℕ × ℕ)) → k.adopted ≡ true → ArePairsRising n None pairs
       → out ≡ broken_pieces pairs → IsPrintedAnswer n k out BrokenCommand (WithBroken pairs)

@@ -168,8 +168,9 @@ pub data Says (n : Network) : Line → ReportLine → Type 0 where
       → Says n (Rank v p rank) (RankSaid v p rank)
   end_of_routes : Says n EndRoutes EndRoutesSaid
   no_map : Says n NoMap NoMapSaid
-  installed_line : (acked count : ℕ) → IsCounted count → Says n (Installed acked count) (InstalledSaid count)
-  table_line : (h : ℕ) (active : Bool) → IsHost n h → Says n (Table h active) (TableSaid h)
+  installed_line : (acked count : ℕ) → acked ≤ count → IsCounted count
+      → Says n (Installed acked count) (InstalledSaid acked count)
+  table_line : (h : ℕ) (active : Bool) → IsHost n h → Says n (Table h active) (TableSaid h active)
   install_refused : (cause : InstallCause) → Says n (InstallRefused cause) InstallRefusedSaid
   call_line : (call : ClientCall) (h port : ℕ) (said : Said) (r : ReportLine) → IsHost n h → port ≤ 7
       → CallSays n (record { host = h; port = port }) call said r → Says n (Client call h port said) r

@@ -168,22 +168,34 @@ rank_of _ _ _ = None
 abbrev pub rank_said : Network → List (List ℕ) → Option ReportLine
 rank_said n ws = option_and_then (λ w. rank_of (vertex_said n w.0) (turn_said w.1.0) (value_said w.1.1)) (three_of ws)
 
--- `K of N`, of which N is kept
+-- K of N hosts, where both were read and K isn't above N
+abbrev pub installed_where : Option ℕ → Option ℕ → Option ReportLine
+installed_where (Some k) (Some m) = if nat_le k m then Some (Installed k m) else None
+installed_where _ _ = None
+
+-- `K of N` by its three words
 abbrev pub count_of : List ℕ → List ℕ → List ℕ → Option ReportLine
-count_of k o m = if number_test k && bytes_eq o (codes "of") then option_map Installed (value_said m) else None
+count_of k o m = if bytes_eq o (codes "of") then installed_where (value_said k) (value_said m) else None
 
 -- `K of N`
 abbrev pub installed_said : List (List ℕ) → Option ReportLine
 installed_said ws = option_and_then (λ w. count_of w.0 w.1.0 w.1.1) (three_of ws)
 
--- `active` or `none`
-abbrev pub is_table_word : List ℕ → Bool
-is_table_word w = bytes_eq w (codes "active") || bytes_eq w (codes "none")
+-- whether a table is active: `active` or `none`
+abbrev pub active_said : List ℕ → Option Bool
+active_said w =
+    if bytes_eq w (codes "active") then Some true
+    else if bytes_eq w (codes "none") then Some false
+    else None
+
+-- a table, where its host and its word were read
+abbrev pub table_of : Option ℕ → Option Bool → Option ReportLine
+table_of (Some h) (Some active) = Some (Table h active)
+table_of _ _ = None
 
 -- `H active` or `H none`
 abbrev pub table_said : Network → List (List ℕ) → Option ReportLine
-table_said n ws =
-    option_and_then (λ w. if is_table_word w.1 then option_map Table (host_said n w.0) else None) (two_of ws)
+table_said n ws = option_and_then (λ w. table_of (host_said n w.0) (active_said w.1)) (two_of ws)
 
 -- why nothing is installed
 abbrev pub is_install_cause : List ℕ → Bool

@@ -124,10 +124,20 @@ pub enum ReportLine {
     },
     /// `endroutes`
     EndRoutes,
-    /// `installed K of N`, without K; N lines `table` follow.
-    Installed(u64),
+    /// `installed K of N`, K at most N; N lines `table` follow.
+    Installed {
+        /// How many hosts acknowledged all parts of their tables.
+        acked: u64,
+        /// How many hosts the map has.
+        count: u64,
+    },
     /// `table H active` or `table H none`
-    Table(u16),
+    Table {
+        /// The host.
+        host: u16,
+        /// Whether its table is active.
+        active: bool,
+    },
     /// `install refused CAUSE`
     InstallRefused,
     /// `open H P done`

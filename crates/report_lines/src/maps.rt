@@ -5,7 +5,7 @@ ghost use Rattle.fab_text.specs.Line.{words_of};
 ghost use Rattle.report_lines.specs.Forms.{are_counts, map_line, doubtful_said, incomplete_said, map_of_host, map_said};
 ghost use Rattle.report_lines.specs.Forms.{known_by, are_asks, circuit_line, depth_said, circuit_of_host, circuit_said};
 ghost use Rattle.report_lines.specs.Forms.{routes_said, rank_said};
-ghost use Rattle.report_lines.specs.Forms.{installed_said, is_table_word, table_said, is_only, where_so};
+ghost use Rattle.report_lines.specs.Forms.{installed_where, installed_said, active_said, table_said, is_only, where_so};
 
 use crate::line::{MapSaid, ReportLine};
 use crate::word::{host, is_empty, is_number, three, turn, value, vertex};
@@ -203,12 +203,22 @@ pub(crate) fn installed(args: Words) -> Option<ReportLine>
     ensures { result ≡ installed_said (words_of args.entry) }
 {
     match three(args) {
-        Some((acked, (of, count))) if is_number(acked) && of == b"of".as_slice() => {
-            match value(count) {
-                Some(count) => Some(ReportLine::Installed(count)),
-                None => None,
-            }
+        Some((acked, (of, count))) if of == b"of".as_slice() => {
+            installed_where(value(acked), value(count))
         }
+        _ => None,
+    }
+}
+
+// K of N hosts, where both were read and K isn't above N.
+fn installed_where(acked: Option<u64>, count: Option<u64>) -> Option<ReportLine>
+    ensures { result ≡ installed_where acked count }
+{
+    match (acked, count) {
+        (Some(acked), Some(count)) if acked <= count => Some(ReportLine::Installed {
+            acked,
+            count,
+        }),
         _ => None,
     }
 }
@@ -218,17 +228,23 @@ pub(crate) fn table(fabric: &Fabric, args: Words) -> Option<ReportLine>
     ensures { result ≡ table_said fabric.now (words_of args.entry) }
 {
     match args.two() {
-        Some((h, word)) if is_table_word(word) => match host(fabric, h) {
-            Some(host) => Some(ReportLine::Table(host)),
-            None => None,
+        Some((h, word)) => match (host(fabric, h), active(word)) {
+            (Some(host), Some(active)) => Some(ReportLine::Table { host, active }),
+            _ => None,
         },
-        _ => None,
+        None => None,
     }
 }
 
-// Whether a word says what became of a table.
-fn is_table_word(word: &[u8]) -> bool
-    ensures { result ≡ is_table_word word.now }
+// Whether a table is active, by its word.
+fn active(word: &[u8]) -> Option<bool>
+    ensures { result ≡ active_said word.now }
 {
-    word == b"active".as_slice() || word == b"none".as_slice()
+    if word == b"active".as_slice() {
+        Some(true)
+    } else if word == b"none".as_slice() {
+        Some(false)
+    } else {
+        None
+    }
 }
