@@ -1,3 +1,4 @@
+pub mod Addresses
 pub mod Expanding
 pub mod Firsts
 pub mod Joined

@@ -1,5 +1,7 @@
 -- A map without cables, whose vertices are named for nodes.
-use Rattle.std.specs.Prelude.{◌≡◌, ℕ, ℤ, true, List, [], map, slice_get, Option, Some, None}
+use Rattle.std.specs.Prelude.{◌≡◌, ℕ, ℤ, true, List, [], ◌∷◌, map, slice_get, Option, Some, None}
+use Rattle.net_defs.specs.declared.place.Answer.{Answer}
+use Rattle.net_defs.specs.declared.place.Answer.TheVariants.{Host, Switch, Nothing}
 use Rattle.journal_defs.specs.declared.entry.Entry.{Entry}
 use Rattle.journal_defs.specs.Tree.{host_of}
 use Rattle.map_defs.specs.declared.vertex.MapVertex.{MapVertex}
@@ -31,6 +33,12 @@ HaveOwnAddresses os = (v w h : ℕ) → slice_get os v ≡ Some (Some h) → sli
 -- the addresses of nodes by their numbers: none of a switch
 abbrev pub addresses_of : ℕ → List Entry → List (List ℤ) → List ℕ → List (Option ℕ)
 addresses_of host j walks numbers = map (λ n. host_of host j (node_at (nodes_of walks) n)) numbers
+
+-- the address of the node that an answer found, if it found one: none of a switch
+abbrev pub found_by : Answer → List (Option ℕ)
+found_by (Host h) = Some h ∷ []
+found_by Switch = None ∷ []
+found_by Nothing = []
 
 -- the vertices that are named for these nodes
 abbrev pub vertices_of : ℕ → List Entry → List (List ℤ) → List ℕ → List MapVertex

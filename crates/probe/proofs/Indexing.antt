@@ -1,13 +1,11 @@
 -- Walks among walks: the tests of turns, where a walk stands, and what a journal was asked.
-use Rattle.std.proofs.Common.{◌≡◌, ◌≢◌, ◌<◌, ℕ, zero, suc, List, [], ◌∷◌, Bool, true, false, ◌||◌, length, map, Option, Some, None, is_some, get_or, refl, ap, sym, ◌∙◌, subst, true≢false, arith, if◌then◌else◌}
+use Rattle.std.proofs.Common.{◌≡◌, ◌≢◌, ◌+◌, ℕ, zero, suc, List, [], ◌∷◌, Bool, true, false, ◌||◌, map, take, Some, is_some, refl, ap, sym, ◌∙◌, subst, true≢false, arith, if◌then◌else◌}
 use Rattle.std.specs.Prelude.{ℤ, slice_get}
 use Rattle.std.specs.List.{AllByRecursion}
 use Rattle.std.specs.Ordering.{int_eq}
 use Rattle.std.specs.Cmp.Lexicographic.{pointwise}
 use Rattle.std.specs.Cmp.Rules.{signed_items}
-use Rattle.std.proofs.lemmas.Option.{slice_get_read}
 use Rattle.net_defs.specs.Network.{Apart}
-use Rattle.net_defs.specs.declared.place.Answer.{Answer}
 use Rattle.journal_defs.specs.declared.entry.Entry.{Entry}
 use Rattle.net_defs.specs.Turn.{same_turns}
 use Rattle.journal_defs.specs.Tree.{answered, is_asked}
@@ -33,6 +31,26 @@ walk-there (v ∷ ws) (suc at) w e = by (same_turns v w) (walk-there ws at w e)
     by : (b : Bool) → has_walk ws w ≡ true → (b || has_walk ws w) ≡ true
     by true t = refl
     by false t = t
+
+-- one that was met at a place, and those up to the place of another
+pub walk-met : (ws : List (List ℤ)) (at : ℕ) (v w : List ℤ) → slice_get ws at ≡ Some v → same_turns v w ≡ true → has_walk ws w ≡ true
+walk-met ws at v w there t = walk-there ws at w (there ∙ ap Some (same_turns-true v w t))
+
+pub walk-passed : (ws : List (List ℤ)) (at : ℕ) (v w : List ℤ) → slice_get ws at ≡ Some v → same_turns v w ≡ false → has_walk (take at ws) w ≡ false → has_walk (take (at + 1) ws) w ≡ false
+walk-passed ws at v w there t before =
+    let one : suc at ≡ at + 1 = omega arith in
+    subst (λ n. has_walk (take n ws) w ≡ false) one (next ws at there before)
+  where
+    next : (ws : List (List ℤ)) (at : ℕ) → slice_get ws at ≡ Some v → has_walk (take at ws) w ≡ false → has_walk (take (suc at) ws) w ≡ false
+    next [] at there before = cc
+    next (x ∷ ws) zero there before =
+        let one : x ≡ v = cc in
+        ap (λ y. same_turns y w || false) one ∙ ap (λ b. b || false) t
+    next (x ∷ ws) (suc at) there before = by (same_turns x w) before (next ws at there)
+      where
+        by : (b : Bool) → (b || has_walk (take at ws) w) ≡ false → (has_walk (take at ws) w ≡ false → has_walk (take (suc at) ws) w ≡ false) → (b || has_walk (take (suc at) ws) w) ≡ false
+        by true p rest = absurd (true≢false p)
+        by false p rest = rest p
 
 -- one that stands at none isn't
 pub walk-missing : (ws : List (List ℤ)) (w : List ℤ) → ((at : ℕ) → slice_get ws at ≢ Some w) → has_walk ws w ≡ false
@@ -79,21 +97,3 @@ answered-at (x ∷ es) w (suc at) e apart p q = by (same_turns x.walk w) refl (a
         different (v ∷ ws) zero w all p same = all.0 (let one : v ≡ w = cc in same ∙ sym one)
         different (v ∷ ws) (suc at) w all p same = different ws at w all.1 p same
     by false t rest = rest
-
--- and there is none where it has no place
-pub answered-none : (es : List Entry) (w : List ℤ) → has_walk (map (λ e. e.walk) es) w ≡ false → answered es w ≡ None
-answered-none es w e = by (answered es w) refl
-  where
-    by : (o : Option Answer) → answered es w ≡ o → o ≡ None
-    by None p = refl
-    by (Some a) p = absurd (true≢false (sym (ap is_some p) ∙ sym (asked-has_walk es w) ∙ e))
-
-pub answered-read : (es : List Entry) (w : List ℤ) (at : ℕ) (e : Entry) → Apart (map (λ e. e.walk) es) → slice_get (map (λ e. e.walk) es) at ≡ Some w → e ≡ get_or es at e → answered es w ≡ Some e.answer
-answered-read es w at e apart p q =
-    let inside : at < length es = by_map es at w p in
-    answered-at es w at e apart p (slice_get_read es (length es) at e refl inside q)
-  where
-    by_map : (es : List Entry) (at : ℕ) (w : List ℤ) → slice_get (map (λ e. e.walk) es) at ≡ Some w → at < length es
-    by_map [] at w p = cc
-    by_map (x ∷ es) zero w p = omega arith
-    by_map (x ∷ es) (suc at) w p = let l = by_map es at w p in omega arith

@@ -1,5 +1,5 @@
 -- What a journal in memory is, and when it takes an entry.
-use Rattle.std.specs.Prelude.{ℕ, ◌≤◌, ◌*◌, ℤ, Bool, List, ◌∷◌, [], ◌++◌, length, map}
+use Rattle.std.specs.Prelude.{ℕ, ◌<◌, ◌≤◌, ◌*◌, ℤ, Bool, List, ◌∷◌, [], ◌++◌, length, map}
 use Rattle.std.specs.List.{list_any}
 use Rattle.journal_defs.specs.declared.entry.Entry.{Entry}
 use Rattle.net_defs.specs.Turn.{same_turns}
@@ -19,8 +19,12 @@ with_entry j e = record j { entries = j.entries ++ e ∷ [] }
 abbrev pub has_walk : List (List ℤ) → List ℤ → Bool
 has_walk ws w = list_any (λ v. same_turns v w) ws
 
--- No walk of entries stands twice, and chains lead to them, with at most two entries a bucket.
+-- Chains lead to walks, with at most two walks a bucket.
+pub record AreIndexed (walks : List (List ℤ)) (latest before : List ℕ) : Type 0 where
+  pub chained : IsChained walks latest before
+  pub enough : length walks ≤ 2 * length latest
+
+-- No walk of entries stands twice, and where walks are chained, chains lead to all of them.
 pub record IsIndexed (entries : List Entry) (latest before : List ℕ) : Type 0 where
   pub once : IsJournal entries
-  pub chained : IsChained (map (λ e. e.walk) entries) latest before
-  pub enough : length (map (λ e. e.walk) entries) ≤ 2 * length latest
+  pub indexed : 0 < length before → AreIndexed (map (λ e. e.walk) entries) latest before

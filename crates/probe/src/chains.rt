@@ -2,9 +2,9 @@
 
 ghost use Rattle.std.specs.Prelude.{◌≡◌, ℕ, ◌+◌, ◌*◌, ◌%◌, ◌<◌, ◌≤◌, ◌^◌, ◌++◌, ◌∷◌, [], length, replicate, slice_set};
 ghost use Rattle.std.specs.Prelude.{slice_index_or, slice_get, vec_len, vec_capacity, true, false, is_some, Some};
-ghost use Rattle.std.specs.Prelude.{IfOk, IfSome, OnOk};
+ghost use Rattle.std.specs.Prelude.{IfOk, IfSome, OnOk, OnErr};
 ghost use Rattle.net_defs.specs.Turn.{same_turns};
-ghost use Rattle.probe.specs.Keeping.{has_walk};
+ghost use Rattle.probe.specs.Keeping.{AreIndexed, has_walk};
 ghost use Rattle.probe.specs.Chained.{IsChained, IsInChain, IsOther, hash_of, mixed};
 
 use crate::walk_list::WalkList;
@@ -117,6 +117,49 @@ fn is_same(walk: &[i8], other: &[i8]) -> bool
     ensures { result ≡ same_turns walk.now other.now }
 {
     walk == other
+}
+
+/// Whether a walk is there: looked for one after another, without the chains.
+pub(crate) fn stands_among<W: WalkList>(walks: &W, turns: &[i8]) -> bool
+    ensures { result ≡ has_walk (W.list walks.now) turns.now }
+{
+    for at in 0..walks.count() {
+        if is_same(walks.turns_at(at), turns) {
+            return true;
+        }
+    }
+    false
+}
+
+/// Chains all walks, if none is chained yet.
+pub(crate) fn index<W: WalkList>(walks: &W, chains: &mut Chains) -> Result<(), AllocError>
+    requires kept { 0 < length chains.old.before.items
+        → AreIndexed (W.list walks.now) chains.old.latest.items chains.old.before.items }
+    ensures indexed { OnOk result (AreIndexed (W.list walks.now) chains.new.latest.items chains.new.before.items) }
+    ensures none { OnErr result (length chains.new.before.items ≡ 0) }
+{
+    let chained = chains.before.len();
+    if chained == 0 {
+        index_all(walks, chains)
+    } else {
+        Ok(())
+    }
+}
+
+// Chains all walks, of which none is chained.
+fn index_all<W: WalkList>(walks: &W, chains: &mut Chains) -> Result<(), AllocError>
+    requires { length chains.old.before.items ≡ 0 }
+    ensures indexed { OnOk result (AreIndexed (W.list walks.now) chains.new.latest.items chains.new.before.items) }
+    ensures none { OnErr result (length chains.new.before.items ≡ 0) }
+{
+    let count = walks.count();
+    if count >= u32::MAX as usize - 1 {
+        return Err(AllocError);
+    }
+    chains.before.reserve(count)?;
+    chains.latest.resize(2 * count + 1, 0)?;
+    chain_all(walks, chains);
+    Ok(())
 }
 
 /// Room for one walk more, with at most two walks a bucket: what more buckets save in looks they take in memory. Where

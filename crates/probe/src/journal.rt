@@ -1,14 +1,14 @@
 //! What a mapper asked, with the answers, in order.
 
-ghost use Rattle.std.specs.Prelude.{◌≡◌, [], true, false, map, OnOk, OnErr, IfErr};
-ghost use Rattle.journal_defs.specs.Tree.{IsJournal, answered, is_asked};
-ghost use Rattle.probe.specs.Keeping.{with_entry};
+ghost use Rattle.std.specs.Prelude.{◌≡◌, [], true, false, if◌then◌else◌, map, OnOk, OnErr, IfErr};
+ghost use Rattle.journal_defs.specs.Tree.{IsJournal, is_asked};
+ghost use Rattle.probe.specs.Keeping.{has_walk, with_entry};
+ghost use Rattle.probe.specs.declared.journal.JournalPush.TheVariants.{Known, NoMemory};
 ghost use Rattle.probe.specs.Pushing.{PushesWhere};
 
-use crate::chains::{Chains, add, find, hash_of, make_room, no_chains};
+use crate::chains::{Chains, add, find, hash_of, index, make_room, no_chains, stands_among};
 use crate::walk_list::WalkList;
 use journal_defs::Entry;
-use net_defs::Answer;
 use std::alloc::{AllocError, Global};
 use std::marker::Model;
 
@@ -21,8 +21,11 @@ pub enum JournalPush {
     NoMemory,
 }
 
-/// The asks of one host with their answers, in the order of the asks, no walk twice. A walk is found by a hash of its
-/// turns, which lie in its entry alone. Contracts see the host and the list of entries.
+/// The asks of one host with their answers, in the order of the asks, no walk twice. Contracts see the host and the
+/// list of entries.
+///
+/// The first [`Journal::push`] makes an index, by which a walk is found by a hash of its turns. A journal that grows by
+/// [`Journal::push_new`] alone has none.
 #[derive(Drop)]
 pub struct Journal {
     host: u16,
@@ -67,24 +70,19 @@ impl Journal {
         &self.entries
     }
 
-    /// The answer to a walk, where it stands in the journal.
-    pub fn answer_to(&self, turns: &[i8]) -> Option<Answer>
-        ensures { result ≡ answered self.now.entries turns.now }
-    {
-        match find(&self.entries, &self.chains, turns, hash_of(turns)) {
-            Some(at) => Some(self.entries[at].answer),
-            None => None,
-        }
-    }
-
     /// Adds an entry at the end whose walk is known not to stand in the journal. It isn't looked for.
     pub fn push_new(&mut self, alloc: Global, e: Entry) -> Result<(), AllocError>
         requires { is_asked self.old.entries e.walk ≡ false }
         ensures ok { OnOk result (self.new ≡ with_entry self.old e) }
         ensures err { OnErr result (self.new ≡ self.old) }
     {
-        let hash = hash_of(e.walk.turns());
         self.entries.reserve(1)?;
+        let chained = self.chains.before.len();
+        if chained == 0 {
+            self.entries.push_reserved(e);
+            return Ok(());
+        }
+        let hash = hash_of(e.walk.turns());
         make_room(&self.entries, &mut self.chains)?;
         self.entries.push_reserved(e);
         add(&mut self.chains, hash);
@@ -98,6 +96,10 @@ impl Journal {
         ensures handed_back { IfErr result (λ refused. refused.0 ≡ e) }
         ensures unchanged { OnErr result (self.new ≡ self.old) }
     {
+        if index(&self.entries, &mut self.chains).is_err() {
+            let refusal = refusal_without_index(&self.entries, e.walk.turns());
+            return Err((e, refusal));
+        }
         let hash = hash_of(e.walk.turns());
         if find(&self.entries, &self.chains, e.walk.turns(), hash).is_some() {
             return Err((e, JournalPush::Known));
@@ -113,6 +115,17 @@ impl Journal {
             }
             Err(_) => Err((e, JournalPush::NoMemory)),
         }
+    }
+}
+
+// Why a walk is refused where there is no memory for an index.
+fn refusal_without_index(entries: &Vec<Entry>, turns: &[i8]) -> JournalPush
+    ensures { result ≡ (if has_walk (map (λ e. e.walk) entries.now.items) turns.now then Known else NoMemory) }
+{
+    if stands_among(entries, turns) {
+        JournalPush::Known
+    } else {
+        JournalPush::NoMemory
     }
 }
 
