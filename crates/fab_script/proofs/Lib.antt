@@ -6,4 +6,5 @@ mod Digits
 mod Keywords
 mod Numbers
 mod PlainWords
+mod Sizes
 pub mod Turns

@@ -7,13 +7,12 @@ use Rattle.std.proofs.lemmas.Bool.Decides.{nat_tests}
 use Rattle.std.proofs.lemmas.List.{take-append-drop, take_all, drop_all}
 use Rattle.std.proofs.lemmas.List.Folds.{list_all_more}
 use Rattle.std.proofs.lemmas.Int.Digits.{digits_value_more}
-use Rattle.fab_text.specs.declared.fault.NumFault.{NumFault}
 use Rattle.fab_text.specs.declared.fault.NumFault.TheVariants.{NotNumber, TooLarge}
 use Rattle.fab_text.specs.Line.{is_blank, words_of}
 use Rattle.fab_text.specs.Word.{is_digit, number_test, u32_of}
 use Rattle.fab_text.proofs.Digits.{digit_value-digit}
 use Rattle.fab_script.specs.Leading.{is_plain}
-use Rattle.fab_script.specs.Plain.{IsNumberOf}
+use Rattle.fab_script.specs.Plain.{IsNumberOf, IsNumberAhead}
 use Rattle.fab_script.proofs.Keywords.{leads}
 
 -- a digit more
@@ -33,7 +32,7 @@ unblanks [] e = refl
 unblanks (b ∷ w) e = let parts = and_parts (is_digit b) (list_all is_digit w) e in λ i. unblank b parts.0 i && unblanks w parts.1 i
 
 -- the number that a word says is read from digits alone
-digits-of : (w : List ℕ) (v : ℕ) → u32_of w ≡ Ok v → number_test w ≡ true
+pub digits-of : (w : List ℕ) (v : ℕ) → u32_of w ≡ Ok v → number_test w ≡ true
 digits-of w v e = by (number_test w) (nat_le (digits_value 10 w) (2 ^ 32 - 1)) refl e
   where
     by : (t u : Bool) → number_test w ≡ t → (if t then (if u then Ok (digits_value 10 w) else Err TooLarge) else Err NotNumber) ≡ Ok v → number_test w ≡ true
@@ -63,18 +62,37 @@ alone (b ∷ w) h = plain b w h
         by false true v f e = cc
         by false false v f e = ap (onto_first b) (f e)
 
+-- a byte more in front
+plain-behind : (s : ℕ) (w : List ℕ) → not (is_blank s) ≡ true → is_plain w ≡ true → is_plain (s ∷ w) ≡ true
+plain-behind s [] f h = cc
+plain-behind s (b ∷ w) f h = λ i. f i && h i
+
 -- a number with a space after it
-pub number-leads : (bytes left : List ℕ) (count value : ℕ) → IsNumberOf bytes count value → drop count bytes ≡ 32 ∷ left → map u32_of (words_of bytes) ≡ Ok value ∷ map u32_of (words_of left)
+pub number-leads : (bytes left : List ℕ) (count value : ℕ) → IsNumberOf bytes count value → drop count bytes ≡ 32 ∷ left → IsNumberAhead bytes value left
 number-leads bytes left count value h space =
     let word : is_plain (take count bytes) ≡ true = number-plain (take count bytes) (digits-of (take count bytes) value h.1) in
     let cut : bytes ≡ take count bytes ++ 32 ∷ left = sym (take-append-drop count bytes) ∙ ap (λ r. take count bytes ++ r) space in
-    ap (λ b. map u32_of (words_of b)) cut ∙ ap (map u32_of) (leads (take count bytes) left word) ∙ ap (λ r. r ∷ map u32_of (words_of left)) h.1
+    record {
+      digits = take count bytes;
+      says = h.1;
+      first = ap words_of cut ∙ leads (take count bytes) left word;
+      signed = λ s plain. ap (λ b. words_of (s ∷ b)) cut ∙ leads (s ∷ take count bytes) left (plain-behind s (take count bytes) plain word);
+    }
 
 -- a number with nothing after it
-pub number-ends : (bytes rest : List ℕ) (count value : ℕ) → IsNumberOf bytes count value → count ≡ length bytes → rest ≡ drop count bytes → map u32_of (words_of bytes) ≡ Ok value ∷ map u32_of (words_of rest)
+pub number-ends : (bytes rest : List ℕ) (count value : ℕ) → IsNumberOf bytes count value → count ≡ length bytes → rest ≡ drop count bytes → IsNumberAhead bytes value rest
 number-ends bytes rest count value h all e =
     let whole : take count bytes ≡ bytes = take_all count bytes (omega (arith, all)) in
     let none : rest ≡ [] = e ∙ drop_all count bytes (omega (arith, all)) in
     let said : u32_of bytes ≡ Ok value = ap u32_of (sym whole) ∙ h.1 in
-    let word : words_of bytes ≡ bytes ∷ [] = alone bytes (number-plain bytes (digits-of bytes value said)) in
-    ap (map u32_of) word ∙ ap (λ r. r ∷ []) said ∙ ap (λ l. Ok value ∷ map u32_of (words_of l)) (sym none)
+    let word : is_plain bytes ≡ true = number-plain bytes (digits-of bytes value said) in
+    record {
+      digits = bytes;
+      says = said;
+      first = alone bytes word ∙ ap (λ l. bytes ∷ words_of l) (sym none);
+      signed = λ s plain. alone (s ∷ bytes) (plain-behind s bytes plain word) ∙ ap (λ l. (s ∷ bytes) ∷ words_of l) (sym none);
+    }
+
+-- so the first number is this one
+pub number-first : (bytes left : List ℕ) (value : ℕ) → IsNumberAhead bytes value left → map u32_of (words_of bytes) ≡ Ok value ∷ map u32_of (words_of left)
+number-first bytes left value h = ap (map u32_of) h.first ∙ ap (λ r. r ∷ map u32_of (words_of left)) h.says

@@ -2,9 +2,7 @@
 use Rattle.std.proofs.Common.{◌≡◌, ◌≤◌, ◌^◌, ◌-◌, ℕ, suc, List, [], ◌∷◌, Bool, true, false, length, map, nat_eq, nat_lt, nat_le, Ok, Err, refl, ap, ◌∙◌, arith, if◌then◌else◌}
 use Rattle.std.specs.Str.Parse.{digits_value}
 use Rattle.std.proofs.lemmas.Bool.Decides.{nat_tests}
-use Rattle.fab_text.specs.declared.fault.NumFault.{NumFault}
 use Rattle.fab_text.specs.declared.fault.NumFault.TheVariants.{NotNumber, TooLarge as AboveRange}
-use Rattle.fab_text.specs.declared.fault.FaultKind.{FaultKind}
 use Rattle.fab_text.specs.declared.fault.FaultKind.TheVariants.{BadWord, TooLarge}
 use Rattle.fab_text.specs.Fault.{as_kind, and_then}
 use Rattle.fab_text.specs.Word.{name_test, number_test, number_within, u32_of}

@@ -48,7 +48,7 @@ turn-range (b ∷ bs) t e = by (nat_eq b 43) (nat_eq b 45) e
     by false false e = plus-range (number_within 15 (b ∷ bs)) t (within 15 (b ∷ bs)) e
 
 -- turns that were read are as many as their words, and each is one
-turns-range : (ws : List (List ℕ)) (ts : List ℤ) → turns_of ws ≡ Ok ts → (length ts ≡ length ws) × (list_all is_turn ts ≡ true)
+pub turns-range : (ws : List (List ℕ)) (ts : List ℤ) → turns_of ws ≡ Ok ts → (length ts ≡ length ws) × (list_all is_turn ts ≡ true)
 turns-range [] ts e = let same : [] ≡ ts = cc in (ap length (sym same), ap (list_all is_turn) (sym same))
 turns-range (w ∷ ws) ts e = by (turn_of w) (turns_of ws) refl e (turns-range ws)
   where

@@ -49,8 +49,16 @@ pub(crate) fn after_name<'a>(args: &Words<'a>) -> Option<(&'a [u8], &'a [u8])>
 pub(crate) fn after_space(line: &[u8]) -> Option<&[u8]>
     ensures { IfSome result (λ left. line.now ≡ 32 ∷ left.now) }
 {
+    after_byte(line, b' ')
+}
+
+/// What follows this byte, where it comes first.
+#[inline(always)]
+pub(crate) fn after_byte(line: &[u8], byte: u8) -> Option<&[u8]>
+    ensures { IfSome result (λ left. line.now ≡ byte ∷ left.now) }
+{
     match line.split_first() {
-        Some((first, left)) if *first == b' ' => Some(left),
+        Some((first, left)) if *first == byte => Some(left),
         _ => None,
     }
 }

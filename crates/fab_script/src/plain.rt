@@ -1,18 +1,23 @@
-//! Plain numbers, read in one pass: most lines have nothing but digits behind their keywords, with one space between.
+//! Plain numbers and turns, read in one pass: most lines have nothing else behind their keywords, with one space
+//! between.
 //!
 //! Where one of these answers None it says nothing of the bytes, and the words are read one by one.
 
 ghost use Rattle.std.specs.Prelude.{◌≡◌, ◌≤◌, ◌∷◌, [], map, Ok, IfSome};
 ghost use Rattle.fab_text.specs.Line.{words_of};
 ghost use Rattle.fab_text.specs.Word.{is_digit, u32_of};
-ghost use Rattle.run_defs.specs.Script.{OfName, OfNumber, Name, Number, said_by};
-ghost use Rattle.fab_script.specs.Plain.{IsNumberOf};
+ghost use Rattle.run_defs.specs.Script.{OfName, OfNumber, Name, Number, said_by, turns_of};
+ghost use Rattle.fab_script.specs.LineLists.{behind};
+ghost use Rattle.fab_script.specs.Plain.{IsNumberOf, IsNumberAhead, IsSizeAhead};
 
-use crate::leading::{after_name, after_space};
+use crate::leading::{after_byte, after_name, after_space};
 use fab_text::Words;
 
 // Before one digit more, so that nine digits fit.
 const MAX_FRONT: u32 = 99_999_999;
+
+// The greatest turn; the least is its negative.
+const MAX_TURN: u32 = 15;
 
 /// The number that bytes are, where it is in a range.
 #[inline(always)]
@@ -136,7 +141,8 @@ fn three_numbers(bytes: &[u8]) -> Option<(u32, u32, u32)>
 // The number of one to nine digits that comes first, and what is left behind it and a space.
 #[inline(always)]
 fn next_number(bytes: &[u8]) -> Option<(u32, &[u8])>
-    ensures { IfSome result (λ p. map u32_of (words_of bytes.now) ≡ Ok p.0 ∷ map u32_of (words_of p.1.now)) }
+    ensures ahead { IfSome result (λ p. IsNumberAhead bytes.now p.0 p.1.now) }
+    ensures numbers { IfSome result (λ p. map u32_of (words_of bytes.now) ≡ Ok p.0 ∷ map u32_of (words_of p.1.now)) }
 {
     let (number, digits) = leading_digits(bytes)?;
     let (_, rest) = bytes.split_at(digits);
@@ -147,6 +153,33 @@ fn next_number(bytes: &[u8]) -> Option<(u32, &[u8])>
         Some(left) => Some((number, left)),
         None => None,
     }
+}
+
+/// The turn that comes first, and what is left behind it and a space.
+#[inline(always)]
+pub(crate) fn next_turn(bytes: &[u8]) -> Option<(i8, &[u8])>
+    ensures { IfSome result (λ p. turns_of (words_of bytes.now) ≡ behind (p.0 ∷ []) (turns_of (words_of p.1.now))) }
+{
+    if let Some(digits) = after_byte(bytes, b'-') {
+        let (size, left) = size_ahead(digits)?;
+        return Some((-(size as i8), left));
+    }
+    if let Some(digits) = after_byte(bytes, b'+') {
+        let (size, left) = size_ahead(digits)?;
+        return Some((size as i8, left));
+    }
+    let (size, left) = size_ahead(bytes)?;
+    Some((size as i8, left))
+}
+
+// The size of a turn that comes first, and what is left behind it and a space.
+#[inline(always)]
+fn size_ahead(digits: &[u8]) -> Option<(u32, &[u8])>
+    ensures ahead { IfSome result (λ p. IsSizeAhead digits.now p.0 p.1.now) }
+    ensures within { IfSome result (λ p. p.0 ≤ 15) }
+{
+    let (size, left) = next_number(digits)?;
+    Some((within(size, 0, MAX_TURN)?, left))
 }
 
 // The value of the digits that come first, and how many there are: one to nine.

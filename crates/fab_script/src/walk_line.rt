@@ -1,6 +1,6 @@
 //! The line `walk`, which alone takes memory: for its turns, once they are known and its host is.
 
-ghost use Rattle.std.specs.Prelude.{◌≡◌, ◌≤◌, ◌∷◌, length, nat_le, None, Ok, IfOk, IsErrOf, IsOk};
+ghost use Rattle.std.specs.Prelude.{◌≡◌, ◌≤◌, ◌∷◌, length, take, nat_le, None, Ok, IfOk, IfSome, IsErrOf, IsOk};
 ghost use Rattle.net_defs.specs.Turn.{walk_refusal};
 ghost use Rattle.fab_text.specs.Line.{words_of};
 ghost use Rattle.fab_text.specs.Fault.{LineGives};
@@ -8,6 +8,8 @@ ghost use Rattle.run_defs.specs.declared.command.Command.{Command};
 ghost use Rattle.run_defs.specs.Script.{turns_of, walk_said};
 ghost use Rattle.fab_script.specs.LineLists.{in_front};
 
+use crate::leading::after_space;
+use crate::plain::next_turn;
 use fab_text::{FaultKind, LineFault, Words, is_name, read_turn, words};
 use port_graph::{Fabric, Vertex, Walk, WalkFault};
 use run_defs::Command;
@@ -83,7 +85,7 @@ fn walk_of_words(
         return Err(LineFault::Wrong(FaultKind::BadWord));
     }
     let mut read = [0; MAX_TURNS];
-    match read_turns(words(turns), &mut read) {
+    match read_all(turns, &mut read) {
         Ok(count) => match fabric.find(name) {
             Some(Vertex::Host(host)) => walk_of(alloc, host, &read[..count]),
             _ => Err(LineFault::Wrong(FaultKind::NoVertex)),
@@ -102,6 +104,49 @@ fn walk_of(alloc: Global, host: u16, turns: &[i8]) -> Result<Command, LineFault>
         Err(WalkFault::NoMemory) => Err(LineFault::NoMemory),
         Err(WalkFault::TooLong | WalkFault::TurnRange) => unreachable!(),
     }
+}
+
+// Writes down the turns that bytes say, and answers how many.
+fn read_all(bytes: &[u8], turns: &mut [i8]) -> Result<usize, FaultKind>
+    requires { length (words_of bytes.now) ≤ length turns.old }
+    ensures said { in_front turns.new result ≡ turns_of (words_of bytes.now) }
+    ensures count { IfOk result (λ n. n ≡ length (words_of bytes.now)) }
+{
+    match plain_turns(without_space(bytes), turns) {
+        Some(count) => Ok(count),
+        None => read_turns(words(bytes), turns),
+    }
+}
+
+// The same words without the space that comes first, where one does.
+#[inline(always)]
+fn without_space(bytes: &[u8]) -> &[u8]
+    ensures { words_of result.now ≡ words_of bytes.now }
+{
+    match after_space(bytes) {
+        Some(left) => left,
+        None => bytes,
+    }
+}
+
+// Writes down the turns that bytes say, in one pass, and answers how many. None says nothing of the bytes.
+fn plain_turns(bytes: &[u8], turns: &mut [i8]) -> Option<usize>
+    ensures said { IfSome result (λ n. turns_of (words_of bytes.now) ≡ Ok (take n turns.new)) }
+    ensures room { length turns.new ≡ length turns.old }
+    ensures within { IfSome result (λ n. n ≤ length turns.new) }
+{
+    let mut left = bytes;
+    let mut count = 0;
+    'turns: while !left.is_empty() {
+        if count == turns.len() {
+            return None;
+        }
+        let (turn, behind) = next_turn(left)?;
+        turns[count] = turn;
+        left = behind;
+        count += 1;
+    }
+    Some(count)
 }
 
 // Writes down the turns that words say, and answers how many.

@@ -1,9 +1,8 @@
-use Rattle.std.proofs.Common.{ap, sym, take, ◌∙◌}
+use Rattle.std.proofs.Common.{sym, take}
 use Rattle.fab_text.specs.Line.{words_of}
-use Rattle.run_defs.specs.Script.{turns_of}
 use Rattle.fab_script.proofs.Turns.{turns-walk}
 use Rattle.fab_script.proofs.walk_line.walk_of_words.Goals as goal
 
 pub walk_of-requires : goal.walk_of-requires
 walk_of-requires c =
-    turns-walk (words_of c.args.turns.now) (take c.in-Ok.count c.read_turns.new.turns) (ap (λ l. turns_of (words_of l)) (sym c.words.ensures) ∙ sym c.in-Ok.ensures.said) c.requires
+    turns-walk (words_of c.args.turns.now) (take c.in-Ok.count c.read_all.new.turns) (sym c.in-Ok.ensures.said) c.requires
