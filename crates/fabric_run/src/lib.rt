@@ -33,6 +33,6 @@ mod top;
 
 pub use promise::what_promises_imply;
 pub use ran::Ran;
-pub use run_session::{OutOfMemory, Session, World};
+pub use run_session::{Command, Fabric, OutOfMemory, Session, World};
 pub use status::Status;
 pub use top::run;

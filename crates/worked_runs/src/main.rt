@@ -4,9 +4,13 @@
 //! The texts lie in `data/`, as files that `worked_texts` describes. A line is printed for each run, by name: `ok
 //! NAME`, or `failed NAME` with the first difference. A file that belongs to no text, and a text without its report,
 //! fail too. More runs, whose outcome a rule gives, let reads and writes fail, read the longest input, make a text
-//! anew, and judge each report. The last line counts, and the exit status is 0 only where nothing failed.
+//! anew, and judge each report; and a session does one command by its own call. The last line counts, and the exit
+//! status is 0 only where nothing failed.
 #![tactic(auto)]
 
+mod session;
+
+use crate::session::try_session;
 use fab_outer::{MemSink, MemSource};
 use fab_text::Word;
 use fabric_run::run;
@@ -43,6 +47,7 @@ fn try_all(rt: &HostRuntime) -> io::Result<Tally> {
     try_limit::<Top>(rt, &mut tally)?;
     try_generated(rt, &mut tally)?;
     try_reports::<Top>(rt, &mut tally)?;
+    try_session(rt, &mut tally)?;
     println!(rt; "{} passed, {} failed", tally.passed, tally.failed)?;
     Ok(tally)
 }
