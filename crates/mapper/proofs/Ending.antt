@@ -1,6 +1,6 @@
 -- What a journal that has grown is worth: it is short, its end says whether it is closed, and memory may run out after it.
 use Rattle.std.proofs.Common.{◌≡◌, ◌<◌, ◌≤◌, ℕ, List, [], ◌∷◌, ◌++◌, length, Bool, true, false, if◌then◌else◌, subst, ap, refl, arith, ◌⊎◌, inl, inr}
-use Rattle.std.specs.Prelude.{ℤ, nat_lt, not, ◌||◌, ◌↔◌, IsTrue, Result, Ok, Err, IfOk}
+use Rattle.std.specs.Prelude.{ℤ, nat_lt, not, ◌||◌, ◌↔◌, IsTrue}
 use Rattle.std.proofs.lemmas.Bool.Decides.{nat_tests}
 use Rattle.net_defs.specs.declared.place.Answer.{Answer}
 use Rattle.net_defs.specs.Network.{Network, IsFabric}
@@ -8,6 +8,9 @@ use Rattle.journal_defs.specs.declared.entry.Entry.{Entry}
 use Rattle.journal_defs.specs.Depth.{IsSmallEnough, enough_depth}
 use Rattle.journal_defs.specs.Tree.{is_found, nodes}
 use Rattle.journal_defs.specs.Truth.{IsTrueJournal}
+use Rattle.map_defs.specs.NetMap.{NetMap}
+use Rattle.map_defs.specs.Quotient.{IsQuotient}
+use Rattle.fabric_map.specs.Growing.{empty_map}
 use Rattle.journal_defs.specs.Growth.{IsGrown, IsEndedByDepth, IsEndedAtLimit, IsClosed, node_limit}
 use Rattle.map_laws.specs.Laws.{EndsClosed}
 use Rattle.map_laws.proofs.Few.{asks_are_few}
@@ -16,6 +19,7 @@ use Rattle.map_laws.proofs.OneJournal.{grown_journal_is_one}
 use Rattle.mapper.specs.Asks.{AreAsked}
 use Rattle.mapper.specs.Ends.{IsEnd, IsOneDeeper}
 use Rattle.mapper.specs.Growths.{StopsShort}
+use Rattle.mapper.specs.Maps.{IsMapIf}
 use Rattle.mapper.specs.Growths.StopsShort.{between_asks}
 use Rattle.mapper.specs.declared.mapping.MapEnd.{MapEnd}
 use Rattle.mapper.specs.declared.mapping.MapEnd.TheVariants.{Closed, OpenAtDepth, OpenAtNodes}
@@ -78,28 +82,13 @@ module _ (n : Network) (host depth : ℕ) (j : List Entry) (fabric : IsFabric n)
   deep-one more l below t g = grown_journal_is_one n host more l j t truth g (deep-ends.deeper more below)
 
 -- a map is made always, or unless the growth ended at the limit of nodes
-pub made_if : (j : List Entry) (at_limit always made : Bool) → IsTrue at_limit ↔ IsEndedAtLimit j → made ≡ (always || not at_limit) → (always ≡ true) ⊎ (¬ IsEndedAtLimit j) → made ≡ true
-made_if j true true made is e wanted = e
-made_if j false true made is e wanted = e
-made_if j true false made is e (inl always) = cc
-made_if j true false made is e (inr within) = absurd (within (is.0 refl))
-made_if j false false made is e wanted = e
+pub made-if : (host : ℕ) (j : List Entry) (m : NetMap) (at_limit always made : Bool) → IsTrue at_limit ↔ IsEndedAtLimit j → made ≡ (always || not at_limit)
+    → (made ≡ true → IsQuotient host j m) → (made ≡ false → m ≡ empty_map) → IsMapIf always host j m
+made-if host j m at_limit true made is e q none = q e
+made-if host j m true false made is e q none = record { quotient = λ within. absurd (within (is.0 refl)); none = λ limit. none e }
+made-if host j m false false made is e q none = record { quotient = λ within. q e; none = λ limit. let bad : false ≡ true = is.1 limit in cc }
 
-pub none_if : (j : List Entry) (at_limit always made : Bool) → IsTrue at_limit ↔ IsEndedAtLimit j → made ≡ (always || not at_limit) → always ≡ false → IsEndedAtLimit j → made ≡ false
-none_if j true true made is e never limit = cc
-none_if j false true made is e never limit = cc
-none_if j true false made is e never limit = e
-none_if j false false made is e never limit = let bad : false ≡ true = is.1 limit in cc
-
--- a map that is made always, and one that is made within the limit alone
-pub made-always : {M E : Type 0} (A Q : M → Type 0) (r : Result M E) → IfOk r (λ m. (true ≡ true) ⊎ A m → Q m) → IfOk r Q
-made-always A Q (Ok m) f = f (inl refl)
-made-always A Q (Err e) f = tt
-
-pub made-within : {M E : Type 0} (A Q : M → Type 0) (r : Result M E) → IfOk r (λ m. (false ≡ true) ⊎ A m → Q m) → IfOk r (λ m. A m → Q m)
-made-within A Q (Ok m) f = λ a. f (inr a)
-made-within A Q (Err e) f = tt
-
-pub none-beyond : {M E : Type 0} (A Q : M → Type 0) (r : Result M E) → IfOk r (λ m. false ≡ false → A m → Q m) → IfOk r (λ m. A m → Q m)
-none-beyond A Q (Ok m) f = f refl
-none-beyond A Q (Err e) f = tt
+-- within the limit both are the journal's quotient
+pub quotient-within : (host : ℕ) (j : List Entry) (m : NetMap) (always : Bool) → IsMapIf always host j m → ¬ IsEndedAtLimit j → IsQuotient host j m
+quotient-within host j m true made within = made
+quotient-within host j m false made within = made.quotient within

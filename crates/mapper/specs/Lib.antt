@@ -2,4 +2,5 @@ pub mod Asks
 pub mod Ends
 pub mod Finding
 pub mod Growths
+pub mod Maps
 pub mod Turns

@@ -1,7 +1,7 @@
 //! The mapper: the journal of one host, grown by asks to a depth, and its map.
 //!
-//! It knows no fabric: it looks at what a prober answers. `specs/Growths.antt` says what a journal grows by, and
-//! `specs/Asks.antt` how the asks lead a prober from one state to another.
+//! It knows no fabric: it looks at what a prober answers. `specs/Growths.antt` says what a journal grows by,
+//! `specs/Asks.antt` how the asks lead a prober from one state to another, and `specs/Maps.antt` what mapping gives.
 //!
 //! ```text
 //! journal   [] | -15 -14 .. +15 | -2 -15 .. -2 +15 | ..      the walks in their order, as they are asked

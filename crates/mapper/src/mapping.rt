@@ -1,18 +1,14 @@
 //! The map of a journal that has grown, and how its growth ended.
 
-ghost use Rattle.std.specs.Prelude.{◌≡◌, ◌⊎◌, ◌≤◌, ◌<◌, ◌↔◌, [], length, true, false, IsTrue, IfOk, OnOk, OnErr};
-ghost use Rattle.fab_outer.specs.Fault.{Rose};
-ghost use Rattle.journal_defs.specs.Depth.{IsSmallEnough, enough_depth};
-ghost use Rattle.journal_defs.specs.Growth.{IsGrown, IsEndedAtLimit};
-ghost use Rattle.journal_defs.specs.Truth.{IsTrueJournal, IsTrueWhereFound};
+ghost use Rattle.std.specs.Prelude.{◌≡◌, ◌≤◌, ◌<◌, ◌↔◌, [], length, true, false, IsTrue, IfOk, OnOk, OnErr};
+ghost use Rattle.journal_defs.specs.Growth.{IsEndedAtLimit};
 ghost use Rattle.map_defs.specs.Quotient.{IsQuotient};
-ghost use Rattle.map_defs.specs.Sameness.{IsMapOfPart};
 ghost use Rattle.replicate_merge.specs.Table.{StandsFor, IsTrueOfOne};
 ghost use Rattle.fabric_map.specs.Growing.{empty_map};
 ghost use Rattle.replicate_merge.specs.Merged.{AreClassesOf, without_tables};
-ghost use Rattle.mapper.specs.Asks.{AreAsked};
-ghost use Rattle.mapper.specs.Ends.{IsEnd, IsOneDeeper};
+ghost use Rattle.mapper.specs.Ends.{IsEnd};
 ghost use Rattle.mapper.specs.Growths.{StopsShort};
+ghost use Rattle.mapper.specs.Maps.{MapsBy, IsMapWithin, IsMapIf};
 
 use crate::growth::{Grown, grow};
 use map_quotient::{FabricMap, closed, merged_quotient};
@@ -52,22 +48,9 @@ pub fn map<P: Prober>(alloc: Global, p: &mut P, depth: u8) -> Result<Mapped, All
     requires some { 1 ≤ depth }
     requires shallow { depth ≤ 32 }
     requires is_ready { P.ready p.old }
-    ensures host { IfOk result (λ m. m.journal.host ≡ P.mapper p.old) }
-    ensures grown { IfOk result (λ m. IsGrown (P.mapper p.old) depth m.journal.entries) }
-    ensures asked { IfOk result (λ m. AreAsked P.State P.asked (P.state p.old) m.journal.entries (P.state p.new)) }
-    ensures found { IfOk result (λ m. IsTrueWhereFound (P.fabric p.old) (P.mapper p.old) m.journal.entries) }
-    ensures truth { IfOk result (λ m. (Rose (P.lost p.old) (P.lost p.new) → ⊥)
-        → IsTrueJournal (P.fabric p.old) (P.mapper p.old) m.journal.entries) }
+    ensures maps { IfOk result (λ m. MapsBy P.State P.asked (P.fabric p.old) (P.mapper p.old) depth (P.state p.old)
+        (P.lost p.old) m (P.state p.new) (P.lost p.new)) }
     ensures quotient { IfOk result (λ m. IsQuotient (P.mapper p.old) m.journal.entries m.map) }
-    ensures end { IfOk result (λ m. IsEnd (P.mapper p.old) m.journal.entries m.end) }
-    ensures certificate { IfOk result (λ m. m.end ≡ MapEnd.Closed → (Rose (P.lost p.old) (P.lost p.new) → ⊥)
-        → IsMapOfPart (P.fabric p.old) (P.mapper p.old) m.map) }
-    ensures depth { IfOk result (λ m. (Rose (P.lost p.old) (P.lost p.new) → ⊥)
-        → enough_depth (P.fabric p.old) (P.mapper p.old) ≤ depth → IsSmallEnough (P.fabric p.old) (P.mapper p.old)
-        → m.end ≡ MapEnd.Closed) }
-    ensures deeper { IfOk result (λ m. (Rose (P.lost p.old) (P.lost p.new) → ⊥)
-        → enough_depth (P.fabric p.old) (P.mapper p.old) ≤ depth → IsSmallEnough (P.fabric p.old) (P.mapper p.old)
-        → IsOneDeeper (P.fabric p.old) (P.mapper p.old) depth m.journal.entries) }
     ensures stopped { OnErr result (StopsShort P.State P.asked P.cut (P.mapper p.old) depth [] (P.state p.old)
         (P.state p.new)) }
     ensures later { P.lost p.old ≤ P.lost p.new }
@@ -83,24 +66,9 @@ pub fn map_within<P: Prober>(alloc: Global, p: &mut P, depth: u8) -> Result<Mapp
     requires some { 1 ≤ depth }
     requires shallow { depth ≤ 32 }
     requires is_ready { P.ready p.old }
-    ensures host { IfOk result (λ m. m.journal.host ≡ P.mapper p.old) }
-    ensures grown { IfOk result (λ m. IsGrown (P.mapper p.old) depth m.journal.entries) }
-    ensures asked { IfOk result (λ m. AreAsked P.State P.asked (P.state p.old) m.journal.entries (P.state p.new)) }
-    ensures found { IfOk result (λ m. IsTrueWhereFound (P.fabric p.old) (P.mapper p.old) m.journal.entries) }
-    ensures truth { IfOk result (λ m. (Rose (P.lost p.old) (P.lost p.new) → ⊥)
-        → IsTrueJournal (P.fabric p.old) (P.mapper p.old) m.journal.entries) }
-    ensures quotient { IfOk result (λ m. ¬ IsEndedAtLimit m.journal.entries
-        → IsQuotient (P.mapper p.old) m.journal.entries m.map) }
-    ensures none { IfOk result (λ m. IsEndedAtLimit m.journal.entries → m.map ≡ empty_map) }
-    ensures end { IfOk result (λ m. IsEnd (P.mapper p.old) m.journal.entries m.end) }
-    ensures certificate { IfOk result (λ m. m.end ≡ MapEnd.Closed → (Rose (P.lost p.old) (P.lost p.new) → ⊥)
-        → IsMapOfPart (P.fabric p.old) (P.mapper p.old) m.map) }
-    ensures depth { IfOk result (λ m. (Rose (P.lost p.old) (P.lost p.new) → ⊥)
-        → enough_depth (P.fabric p.old) (P.mapper p.old) ≤ depth → IsSmallEnough (P.fabric p.old) (P.mapper p.old)
-        → m.end ≡ MapEnd.Closed) }
-    ensures deeper { IfOk result (λ m. (Rose (P.lost p.old) (P.lost p.new) → ⊥)
-        → enough_depth (P.fabric p.old) (P.mapper p.old) ≤ depth → IsSmallEnough (P.fabric p.old) (P.mapper p.old)
-        → IsOneDeeper (P.fabric p.old) (P.mapper p.old) depth m.journal.entries) }
+    ensures maps { IfOk result (λ m. MapsBy P.State P.asked (P.fabric p.old) (P.mapper p.old) depth (P.state p.old)
+        (P.lost p.old) m (P.state p.new) (P.lost p.new)) }
+    ensures within { IfOk result (λ m. IsMapWithin (P.mapper p.old) m.journal.entries m.map) }
     ensures stopped { OnErr result (StopsShort P.State P.asked P.cut (P.mapper p.old) depth [] (P.state p.old)
         (P.state p.new)) }
     ensures later { P.lost p.old ≤ P.lost p.new }
@@ -118,27 +86,11 @@ fn mapped_if<P: Prober>(
     depth: u8,
     always: bool,
 ) -> Result<Mapped, AllocError>
-    requires some { 1 ≤ depth }
     requires shallow { depth ≤ 32 }
     requires is_ready { P.ready p.old }
-    ensures host { IfOk result (λ m. m.journal.host ≡ P.mapper p.old) }
-    ensures grown { IfOk result (λ m. IsGrown (P.mapper p.old) depth m.journal.entries) }
-    ensures asked { IfOk result (λ m. AreAsked P.State P.asked (P.state p.old) m.journal.entries (P.state p.new)) }
-    ensures found { IfOk result (λ m. IsTrueWhereFound (P.fabric p.old) (P.mapper p.old) m.journal.entries) }
-    ensures truth { IfOk result (λ m. (Rose (P.lost p.old) (P.lost p.new) → ⊥)
-        → IsTrueJournal (P.fabric p.old) (P.mapper p.old) m.journal.entries) }
-    ensures quotient { IfOk result (λ m. (always ≡ true) ⊎ (¬ IsEndedAtLimit m.journal.entries)
-        → IsQuotient (P.mapper p.old) m.journal.entries m.map) }
-    ensures none { IfOk result (λ m. always ≡ false → IsEndedAtLimit m.journal.entries → m.map ≡ empty_map) }
-    ensures end { IfOk result (λ m. IsEnd (P.mapper p.old) m.journal.entries m.end) }
-    ensures certificate { IfOk result (λ m. m.end ≡ MapEnd.Closed → (Rose (P.lost p.old) (P.lost p.new) → ⊥)
-        → IsMapOfPart (P.fabric p.old) (P.mapper p.old) m.map) }
-    ensures depth { IfOk result (λ m. (Rose (P.lost p.old) (P.lost p.new) → ⊥)
-        → enough_depth (P.fabric p.old) (P.mapper p.old) ≤ depth → IsSmallEnough (P.fabric p.old) (P.mapper p.old)
-        → m.end ≡ MapEnd.Closed) }
-    ensures deeper { IfOk result (λ m. (Rose (P.lost p.old) (P.lost p.new) → ⊥)
-        → enough_depth (P.fabric p.old) (P.mapper p.old) ≤ depth → IsSmallEnough (P.fabric p.old) (P.mapper p.old)
-        → IsOneDeeper (P.fabric p.old) (P.mapper p.old) depth m.journal.entries) }
+    ensures maps { IfOk result (λ m. MapsBy P.State P.asked (P.fabric p.old) (P.mapper p.old) depth (P.state p.old)
+        (P.lost p.old) m (P.state p.new) (P.lost p.new)) }
+    ensures made { IfOk result (λ m. IsMapIf always (P.mapper p.old) m.journal.entries m.map) }
     ensures stopped { OnErr result (StopsShort P.State P.asked P.cut (P.mapper p.old) depth [] (P.state p.old)
         (P.state p.new)) }
     ensures later { P.lost p.old ≤ P.lost p.new }
@@ -159,26 +111,14 @@ fn with_map(alloc: Global, grown: Grown, always: bool) -> Result<Mapped, AllocEr
     requires few { length grown.journal.entries < 4294967295 }
     requires at_limit { IsTrue grown.at_limit ↔ IsEndedAtLimit grown.journal.entries }
     ensures journal { IfOk result (λ m. m.journal ≡ grown.journal) }
-    ensures quotient { IfOk result (λ m. (always ≡ true) ⊎ (¬ IsEndedAtLimit grown.journal.entries)
-        → IsQuotient grown.journal.host grown.journal.entries m.map) }
-    ensures none { IfOk result (λ m. always ≡ false → IsEndedAtLimit grown.journal.entries → m.map ≡ empty_map) }
+    ensures made { IfOk result (λ m. IsMapIf always grown.journal.host grown.journal.entries m.map) }
     ensures end { IfOk result (λ m. IsEnd grown.journal.host grown.journal.entries m.end) }
 {
     let end = end_of(&grown);
-    let made = is_made(&grown, always);
+    let made = always || !grown.at_limit;
     let (journal, classes) = parted(grown);
     let map = map_if(alloc, made, &journal, classes)?;
     Ok(Mapped { map, journal, end })
-}
-
-// Whether the map of a growth is made.
-#[tactic(auto, using(crate::proofs::Ending::made_if, crate::proofs::Ending::none_if))]
-fn is_made(grown: &Grown, always: bool) -> bool
-    requires at_limit { IsTrue grown.now.at_limit ↔ IsEndedAtLimit grown.now.journal.entries }
-    ensures made { (always ≡ true) ⊎ (¬ IsEndedAtLimit grown.now.journal.entries) → result ≡ true }
-    ensures none { always ≡ false → IsEndedAtLimit grown.now.journal.entries → result ≡ false }
-{
-    always || !grown.at_limit
 }
 
 // The map of a journal, or the map without vertices.

@@ -1,13 +1,11 @@
-use Rattle.std.proofs.Common.{◌≡◌, ◌⊎◌, ◌∙◌, true, inr, sym, ap, subst}
-use Rattle.journal_defs.specs.Growth.{IsGrown, IsEndedAtLimit}
-use Rattle.journal_defs.specs.Truth.{IsTrueJournal, IsTrueWhereFound}
-use Rattle.map_defs.specs.Quotient.{IsQuotient}
+use Rattle.std.proofs.Common.{sym, subst}
+use Rattle.journal_defs.specs.Truth.{IsTrueWhereFound}
 use Rattle.map_laws.proofs.Assembly.{closed_map_is_right}
 use Rattle.probe.specs.Keeping.{JournalState}
-use Rattle.mapper.specs.Asks.{AreAsked}
-use Rattle.mapper.specs.Ends.{IsEnd, IsOneDeeper}
+use Rattle.mapper.specs.Ends.{IsEnd}
+use Rattle.mapper.specs.Maps.{MapsBy, IsMapIf}
 use Rattle.mapper.proofs.Adding.{on-err}
-use Rattle.mapper.proofs.Ending.{short-grown, stops-grown, closed-end, closed-within, deep-closed, deep-one}
+use Rattle.mapper.proofs.Ending.{short-grown, stops-grown, closed-end, closed-within, deep-closed, deep-one, quotient-within}
 use Rattle.mapper.proofs.mapping.mapped_if.Goals as goal
 
 pub returns-in_err-grown-clause-stopped : goal.returns-in_err-grown-clause-stopped
@@ -38,58 +36,35 @@ with_map-requires-clause-few g c = short-grown (g.P.Prober.mapper c.args.p.now) 
 pub with_map-requires-clause-at_limit : goal.with_map-requires-clause-at_limit
 with_map-requires-clause-at_limit g c = c.in_ok-grown.ensures.at_limit
 
-pub returns-clause-host : goal.returns-clause-host
-returns-clause-host g c = ap (λ (j : JournalState). j.host) c.in_ok-mapped.ensures.journal ∙ c.in_ok-grown.ensures.host
-
-pub returns-clause-grown : goal.returns-clause-grown
-returns-clause-grown g c = subst (λ (j : JournalState). IsGrown (g.P.Prober.mapper c.args.p.now) c.args.depth j.entries) (sym c.in_ok-mapped.ensures.journal) c.in_ok-grown.ensures.grown
-
-pub returns-clause-asked : goal.returns-clause-asked
-returns-clause-asked g c = let p = g.P.Prober in subst (λ (j : JournalState). AreAsked p.State p.asked (p.state c.args.p.now) j.entries (p.state c.grow.new.p)) (sym c.in_ok-mapped.ensures.journal) c.in_ok-grown.ensures.asked
-
-pub returns-clause-found : goal.returns-clause-found
-returns-clause-found g c = subst (λ (j : JournalState). IsTrueWhereFound (g.P.Prober.fabric c.args.p.now) (g.P.Prober.mapper c.args.p.now) j.entries) (sym c.in_ok-mapped.ensures.journal) c.in_ok-grown.ensures.found
-
-pub returns-clause-truth : goal.returns-clause-truth
-returns-clause-truth g c calm = subst (λ (j : JournalState). IsTrueJournal (g.P.Prober.fabric c.args.p.now) (g.P.Prober.mapper c.args.p.now) j.entries) (sym c.in_ok-mapped.ensures.journal) (c.in_ok-grown.ensures.truth calm)
-
-pub returns-clause-quotient : goal.returns-clause-quotient
-returns-clause-quotient g c made =
-    let k = c.in_ok-mapped.ensures in
-    let wanted = subst (λ (j : JournalState). (c.args.always ≡ true) ⊎ (¬ IsEndedAtLimit j.entries)) k.journal made in
-    subst (λ (j : JournalState). IsQuotient (g.P.Prober.mapper c.args.p.now) j.entries c.in_ok-mapped.mapped.map) (sym k.journal)
-    (subst (λ h. IsQuotient h c.in_ok-grown.grown.journal.entries c.in_ok-mapped.mapped.map) c.in_ok-grown.ensures.host (k.quotient wanted))
-
-pub returns-clause-none : goal.returns-clause-none
-returns-clause-none g c never limit = let k = c.in_ok-mapped.ensures in k.none never (subst (λ (j : JournalState). IsEndedAtLimit j.entries) k.journal limit)
-
-pub returns-clause-end : goal.returns-clause-end
-returns-clause-end g c = subst (λ (j : JournalState). IsEnd (g.P.Prober.mapper c.args.p.now) j.entries c.in_ok-mapped.mapped.end) (sym c.in_ok-mapped.ensures.journal) (subst (λ h. IsEnd h c.in_ok-grown.grown.journal.entries c.in_ok-mapped.mapped.end) c.in_ok-grown.ensures.host c.in_ok-mapped.ensures.end)
-
-pub returns-clause-certificate : goal.returns-clause-certificate
-returns-clause-certificate g c is_closed calm =
+pub returns-clause-maps : goal.returns-clause-maps
+returns-clause-maps g c =
     let p = g.P.Prober in
-    let k = c.in_ok-grown.ensures in
     let n = p.fabric c.args.p.now in
     let host = p.mapper c.args.p.now in
+    let depth = c.args.depth in
     let j = c.in_ok-grown.grown.journal.entries in
-    let e : IsEnd host j c.in_ok-mapped.mapped.end = subst (λ h. IsEnd h j c.in_ok-mapped.mapped.end) k.host c.in_ok-mapped.ensures.end in
-    let within = closed-within host j c.in_ok-mapped.mapped.end e is_closed in
-    let q : IsQuotient host j c.in_ok-mapped.mapped.map = subst (λ h. IsQuotient h j c.in_ok-mapped.mapped.map) k.host (c.in_ok-mapped.ensures.quotient (inr within)) in
-    closed_map_is_right n host c.args.depth j c.in_ok-mapped.mapped.map c.host-host.ensures.one_fabric (k.truth calm) k.grown (closed-end host j c.in_ok-mapped.mapped.end e is_closed) q
-
-pub returns-clause-depth : goal.returns-clause-depth
-returns-clause-depth g c calm deep small =
-    let p = g.P.Prober in
+    let m = c.in_ok-mapped.mapped in
+    let here = c.host-host.ensures in
     let k = c.in_ok-grown.ensures in
-    let host = p.mapper c.args.p.now in
-    let j = c.in_ok-grown.grown.journal.entries in
-    let e : IsEnd host j c.in_ok-mapped.mapped.end = subst (λ h. IsEnd h j c.in_ok-mapped.mapped.end) k.host c.in_ok-mapped.ensures.end in
-    deep-closed (p.fabric c.args.p.now) host c.args.depth j c.host-host.ensures.one_fabric c.host-host.ensures.there (k.truth calm) k.grown deep small c.in_ok-mapped.mapped.end e
+    let w = c.in_ok-mapped.ensures in
+    let end : IsEnd host j m.end = subst (λ h. IsEnd h j m.end) k.host w.end in
+    let made : IsMapIf c.args.always host j m.map = subst (λ h. IsMapIf c.args.always h j m.map) k.host w.made in
+    subst (λ (v : JournalState). MapsBy p.State p.asked n host depth (p.state c.args.p.now) (p.lost c.args.p.now) (record m { journal = v }) (p.state c.grow.new.p) (p.lost c.grow.new.p)) (sym w.journal) (record {
+      same_host = k.host;
+      grown = k.grown;
+      led = k.asked;
+      found = k.found;
+      truth = k.truth;
+      end = end;
+      certificate = λ closed calm. closed_map_is_right n host depth j m.map here.one_fabric (k.truth calm) k.grown (closed-end host j m.end end closed) (quotient-within host j m.map c.args.always made (closed-within host j m.end end closed));
+      deep = λ calm deep small. deep-closed n host depth j here.one_fabric here.there (k.truth calm) k.grown deep small m.end end;
+      deeper = λ calm deep small. deep-one n host depth j here.one_fabric here.there (k.truth calm) k.grown deep small;
+    })
 
-pub returns-clause-deeper : goal.returns-clause-deeper
-returns-clause-deeper g c calm deep small =
-    let p = g.P.Prober in
+pub returns-clause-made : goal.returns-clause-made
+returns-clause-made g c =
+    let host = g.P.Prober.mapper c.args.p.now in
     let k = c.in_ok-grown.ensures in
-    subst (λ (j : JournalState). IsOneDeeper (p.fabric c.args.p.now) (p.mapper c.args.p.now) c.args.depth j.entries) (sym c.in_ok-mapped.ensures.journal)
-    (deep-one (p.fabric c.args.p.now) (p.mapper c.args.p.now) c.args.depth c.in_ok-grown.grown.journal.entries c.host-host.ensures.one_fabric c.host-host.ensures.there (k.truth calm) k.grown deep small)
+    let w = c.in_ok-mapped.ensures in
+    let m = c.in_ok-mapped.mapped.map in
+    subst (λ (v : JournalState). IsMapIf c.args.always host v.entries m) (sym w.journal) (subst (λ h. IsMapIf c.args.always h c.in_ok-grown.grown.journal.entries m) k.host w.made)
