@@ -4,7 +4,7 @@
 //! | module | has |
 //! |---|---|
 //! | `examples` | the bytes of frames, probes and tables |
-//! | `connections` | a message over a pair of a sender and a receiver |
+//! | `connections` | a message over a pair of a sender and a receiver; a sender at its last number |
 //! | `installing` | what an installation awaits first |
 //! | `ports` | a buffer that parts from its message, and bytes that don't count up |
 //! | `numbers` | offsets of ports, texts of faults |
