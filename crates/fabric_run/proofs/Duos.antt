@@ -8,6 +8,7 @@ use Rattle.duo_laws.proofs.Polls.{polls-right}
 use Rattle.run_defs.specs.declared.command.Command.{Command}
 use Rattle.fab_script.specs.Ranges.{IsCommandOf}
 use Rattle.promise_laws.proofs.Duos.{duo_lines_depend_on_the_duo, duo_lines_keep_the_rest, others_keep_the_duo, duos_are_reached, left_duos_are_reached}
+use Rattle.promise_laws.proofs.DuoLines.{duo_lines-show_what_is_got}
 use Rattle.input_texts.specs.Reading.{AcceptedText}
 use Rattle.fabric_run.specs.Duos.{IsDuoPromised}
 
@@ -22,4 +23,5 @@ duos_promised a all each = record {
   in_order = got-prefix;
   owned = one-owner;
   polls = polls-right;
+  received = λ k out last r. duo_lines-show_what_is_got a.network (take k a.commands) out last (all k) r;
 }
