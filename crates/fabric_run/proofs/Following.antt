@@ -1,7 +1,6 @@
 -- What follows from the promise of a text.
 use Rattle.std.proofs.Common.{◌<◌, suc, List, [], ◌∷◌, ◌++◌, take, refl, sym, ap, ◌∙◌, subst, arith}
 use Rattle.world_defs.specs.World.{WorldState, last_count}
-use Rattle.world_defs.specs.Sound.{IsSound}
 use Rattle.world_defs.specs.Acts.{Act, acted_all, MayActAll}
 use Rattle.client_laws.specs.Seen.{PollsAreFrontOfSends}
 use Rattle.client_laws.specs.Noted.{SentEventsAreOf, PolledTokensAreOf}
@@ -17,6 +16,7 @@ use Rattle.run_laws.proofs.RunsOnce.{runs-more}
 use Rattle.promise_laws.specs.CutShort.{IsCutShort}
 use Rattle.promise_laws.specs.CutShort.IsCutShort.{undone, part_done}
 use Rattle.promise_laws.specs.CommandActs.{acts_of, IsReachedBy}
+use Rattle.promise_laws.specs.Moments.{IsWorldRight}
 use Rattle.promise_laws.proofs.Acting.{acts_reach, may-prefix, reached-further}
 use Rattle.promise_laws.proofs.RunActs.{acts_of_runs_are_one}
 use Rattle.input_texts.specs.Reading.{AcceptedText}
@@ -29,20 +29,20 @@ use Rattle.fabric_run.proofs.Writing.{take-next}
 
 module _ (a : AcceptedText) (promised : IsPromised a) where
   -- a command that is cut short: its acts reach reached worlds alone
-  cut-sound : (s : SessionState) (c : Command) (v : WorldState) → IsNext a s c → IsCutShort s c v → IsSound v
-  cut-sound s c v is (undone same) = subst IsSound (sym same) (promised.worlds s.world (promised.reached is.count is.printed s is.run).reached).sound
-  cut-sound s c v is (part_done d of_c way) =
+  cut-right : (s : SessionState) (c : Command) (v : WorldState) → IsNext a s c → IsCutShort s c v → IsWorldRight v
+  cut-right s c v is (undone same) = subst IsWorldRight (sym same) (promised.worlds s.world (promised.reached is.count is.printed s is.run).reached)
+  cut-right s c v is (part_done d of_c way) =
       let step = promised.steps s c is in
       let may : MayActAll s.world d.acts = subst (λ (x : Deed). MayActAll s.world x.acts) (sym (step.done.one d of_c)) step.acts.may in
       let there = acts_reach a.network s.world way.done way.front.rest (promised.reached is.count is.printed s is.run).reached (subst (λ acts. MayActAll s.world acts) way.front.both may) in
-      subst IsSound (sym way.there) (promised.worlds (acted_all s.world way.done) there).sound
+      subst IsWorldRight (sym way.there) (promised.worlds (acted_all s.world way.done) there)
 
   -- the moments of its run
   pub sound-moments : HasSoundMoments a
   sound-moments = record {
-    sound = λ k out last r. (promised.worlds last.world (promised.reached k out last r).reached).sound;
+    right = λ k out last r. promised.worlds last.world (promised.reached k out last r).reached;
     no_cycle = λ k out last r. (promised.worlds last.world (promised.reached k out last r).reached).sound.no_cycle;
-    cut = cut-sound;
+    cut = cut-right;
     duos = λ k out last d r e.
         let is = (promised.duo.reached k out last d r e).reached in
         record { in_order = promised.duo.in_order d is; owned = promised.duo.owned d is };

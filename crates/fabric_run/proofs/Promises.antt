@@ -22,13 +22,12 @@ use Rattle.fab_script.proofs.Ranged.{reading_ranged}
 use Rattle.run_laws.specs.Acts.{IsActOf}
 use Rattle.print_laws.specs.Shown.{IsPrintedAfter}
 use Rattle.print_laws.proofs.Shown.{complete_maps_are_one}
-use Rattle.message_laws.proofs.Fillings.{coming-tied}
-use Rattle.message_laws.proofs.Sound.{reached-sound}
 use Rattle.client_laws.proofs.Fronts.{polled-front}
 use Rattle.client_laws.proofs.Returned.{events-of_tokens, polls-of_tokens}
 use Rattle.promise_laws.proofs.Said.{said-command, said-act}
 use Rattle.promise_laws.specs.Existence.{HasDone, HasRun}
 use Rattle.promise_laws.proofs.Acting.{deeds_are_single_acts}
+use Rattle.promise_laws.proofs.Moments.{reached_worlds_are_right}
 use Rattle.promise_laws.proofs.ReceivedLines.{runs-receive_as_sent}
 use Rattle.promise_laws.proofs.RunActs.{runs_are_their_acts}
 use Rattle.promise_laws.proofs.Running.{each_command_is_done, run_exists}
@@ -105,7 +104,7 @@ text_promised text a e =
           };
       one_map = λ s t host m k p q same. complete_maps_are_one n (take p.is_next.count cs) (take q.is_next.count cs) host m k o.fabric (after s host m p) (after t host k q) same;
       reached = λ k out last r. runs_are_their_acts n (take k cs) out last o.fabric (acts k) r;
-      worlds = λ w is. record { sound = reached-sound n w is; parts = coming-tied n w is };
+      worlds = λ w is. reached_worlds_are_right n w is;
       received = λ k out last r. runs-receive_as_sent n (take k cs) out last o.fabric (acts k) r;
       polled = polled-front;
       returned = events-of_tokens;

@@ -4,7 +4,7 @@ use Rattle.map_defs.specs.NetMap.{NetMap}
 use Rattle.net_defs.specs.Dependencies.{IsBefore, HasNoCycle}
 use Rattle.world_defs.specs.World.{WorldState, adopted_by}
 use Rattle.world_defs.specs.Asking.{all_given_up}
-use Rattle.world_defs.specs.Sound.{IsSound, installed_channels}
+use Rattle.world_defs.specs.Sound.{installed_channels}
 use Rattle.world_defs.specs.Settled.{IsSettled}
 use Rattle.world_defs.specs.Acts.{Act, acted_all}
 use Rattle.duo_defs.specs.Duo.{DuoState}
@@ -25,24 +25,25 @@ use Rattle.run_defs.specs.Run.{IsDeed, Does, IsRun}
 use Rattle.promise_laws.specs.CommandActs.{acts_of, IsReachedBy}
 use Rattle.promise_laws.specs.CutShort.{IsCutShort}
 use Rattle.promise_laws.specs.Duos.{IsDuoSound}
+use Rattle.promise_laws.specs.Moments.{IsWorldRight}
 use Rattle.input_texts.specs.Reading.{AcceptedText}
 use Rattle.fabric_run.specs.Lines.{WasStruck}
 use Rattle.fabric_run.specs.Steps.{IsNext}
 
--- after the first commands of a text the world is sound
-abbrev pub WorldsAreSound : AcceptedText → Type 0
-WorldsAreSound a = (count : ℕ) (out : List Piece) (last : SessionState)
-    → IsRun a.network (take count a.commands) out last → IsSound last.world
+-- after the first commands of a text the world is right
+abbrev pub FirstCommandsLeaveRight : AcceptedText → Type 0
+FirstCommandsLeaveRight a = (count : ℕ) (out : List Piece) (last : SessionState)
+    → IsRun a.network (take count a.commands) out last → IsWorldRight last.world
 
 -- so no channel waits for itself along the installed routes
 abbrev pub RoutesHaveNoCycle : AcceptedText → Type 0
 RoutesHaveNoCycle a = (count : ℕ) (out : List Piece) (last : SessionState)
     → IsRun a.network (take count a.commands) out last → HasNoCycle (IsBefore (installed_channels last.world))
 
--- and where memory ran out in the midst of the next command, the world is sound too
-abbrev pub CutCommandsLeaveSound : AcceptedText → Type 0
-CutCommandsLeaveSound a =
-    (s : SessionState) (c : Command) (v : WorldState) → IsNext a s c → IsCutShort s c v → IsSound v
+-- and where memory ran out in the midst of the next command, the world is right too
+abbrev pub CutCommandsLeaveRight : AcceptedText → Type 0
+CutCommandsLeaveRight a =
+    (s : SessionState) (c : Command) (v : WorldState) → IsNext a s c → IsCutShort s c v → IsWorldRight v
 
 -- what each incarnation of the two hosts that restart got is a prefix of what it was sent, and each token has one owner
 abbrev pub DuosAreSound : AcceptedText → Type 0
@@ -51,14 +52,14 @@ DuosAreSound a = (count : ℕ) (out : List Piece) (last : SessionState) (d : Duo
 
 -- What the promise of a text says of the moments of its run.
 pub record HasSoundMoments (a : AcceptedText) : Type 0 where
-  pub sound : WorldsAreSound a
+  pub right : FirstCommandsLeaveRight a
   pub no_cycle : RoutesHaveNoCycle a
-  pub cut : CutCommandsLeaveSound a
+  pub cut : CutCommandsLeaveRight a
   pub duos : DuosAreSound a
 
--- These acts lead to a world of a text's run. What polls among them handed out is a prefix of what sends among them were
--- accepted with; each sent event that waits then, and each token that a poll answers as sent, is of the message that
--- its token was last sent with.
+-- These acts lead to a world of a text's run. What polls among them handed out is a prefix of what sends among them
+-- were accepted with; each sent event that waits then, and each token that a poll answers as sent, is of the message
+-- that its token was last sent with.
 pub record AreActsTo (a : AcceptedText) (w : WorldState) (acts : List Act) : Type 0 where
   pub reached : IsReachedBy a.network w acts
   pub polled : PollsAreFrontOfSends a.network acts

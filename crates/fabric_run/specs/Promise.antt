@@ -2,7 +2,6 @@
 use Rattle.std.specs.Prelude.{◌≡◌, ℕ, List, take}
 use Rattle.map_defs.specs.NetMap.{NetMap}
 use Rattle.world_defs.specs.World.{WorldState, fabric_of}
-use Rattle.world_defs.specs.Sound.{IsSound}
 use Rattle.world_defs.specs.Acts.{IsReached}
 use Rattle.run_defs.specs.declared.command.Command.{Command}
 use Rattle.run_defs.specs.declared.command.Command.TheVariants.{Map}
@@ -12,11 +11,11 @@ use Rattle.run_defs.specs.Output.{Piece}
 use Rattle.run_defs.specs.Session.{SessionState}
 use Rattle.run_defs.specs.Run.{IsRun}
 use Rattle.print_laws.specs.Shown.{PrintsMap}
-use Rattle.message_laws.specs.Filling.{HasTiedParts}
 use Rattle.client_laws.specs.Seen.{PolledIsFrontOfAccepted}
 use Rattle.client_laws.specs.Noted.{SentEventsAreOfTokens, PolledTokensAreOfMessages}
 use Rattle.promise_laws.specs.CommandActs.{AreSingleActs, acts_of, IsReachedBy}
 use Rattle.promise_laws.specs.Existence.{HasDone, HasRun}
+use Rattle.promise_laws.specs.Moments.{IsWorldRight}
 use Rattle.promise_laws.specs.ReceivedLines.{AreReceivedAsSent}
 use Rattle.input_texts.specs.Reading.{AcceptedText}
 use Rattle.fabric_run.specs.Duos.{IsDuoPromised}
@@ -54,14 +53,8 @@ abbrev pub WorldsAreReached : AcceptedText → Type 0
 WorldsAreReached a = (count : ℕ) (out : List Piece) (last : SessionState)
     → (run : IsRun a.network (take count a.commands) out last) → IsReachedBy a.network last.world (acts_of run)
 
--- What is promised of a world. The installed routes have no cycle; what was got is a prefix of what was sent, for each
--- sender, receiver and priority; each token has one owner. What came of a message in part stands in one provided
--- buffer, of its port, its sender and its priority, and no other buffer is filling for these.
-pub record IsWorldRight (w : WorldState) : Type 0 where
-  pub sound : IsSound w
-  pub parts : HasTiedParts w
-
--- so it is of each world that is reached, whatever happens before it
+-- each world that is reached, whatever happens before it, is right: sound, with tables, packets, windows, queues and
+-- buffers as they should be
 abbrev pub WorldsAreRight : AcceptedText → Type 0
 WorldsAreRight a = (w : WorldState) → IsReached a.network w → IsWorldRight w
 
@@ -75,10 +68,10 @@ ReceivedLinesAreOfSends a = (count : ℕ) (out : List Piece) (last : SessionStat
 -- The promise of an accepted text. Its commands have a run, and one, whose text is the report. Each command is one
 -- deed, of acts that may happen, and what its lines say is true; complete maps of one host are one while the fabric
 -- stands alike. Each world after first commands is reached by their acts, and so is each one after a prefix of the acts
--- of the next command; each world that is reached is sound. What polls handed out is a prefix of what sends were accepted with, and what the
--- lines `received` show, of what the `send` lines with a token handed in; a sent event that waits has the bytes of the
--- message that was last sent with its token, and a send token that a poll answers is of that message, which is
--- acknowledged. The two hosts that restart keep their own promise.
+-- of the next command; each world that is reached is right. What polls handed out is a prefix of what sends were
+-- accepted with, and what the lines `received` show, of what the `send` lines with a token handed in; a sent event that
+-- waits has the bytes of the message that was last sent with its token, and a send token that a poll answers is of that
+-- message, which is acknowledged. The two hosts that restart keep their own promise.
 pub record IsPromised (a : AcceptedText) : Type 0 where
   pub report : HasRun a.network a.commands
   pub steps : StepsAreRight a

@@ -26,11 +26,11 @@ pub(crate) fn judged_texts()
     ensures { (text : List ℕ) (a : AcceptedText) → IsAccepted text a → IsJudgeable text a → IsJudgedWithReport text a }
 {}
 
-/// What follows from a text's promise, which [`crate::run`] states: the world is sound after its first commands and
-/// where memory ran out for the next one, and so are the two hosts that restart; the acts of its commands are one list,
-/// which leads to each of these worlds, and by it clients are handed what was sent, and send tokens come back; where
-/// injections are left, maps are doubtful and installations miss hosts only by faults or lost cables, and settles end
-/// settled; and what the sink took is a prefix of the report, after a failed write and where memory ran out.
+/// What follows from a text's promise, which [`crate::run`] states: the world is right after its first commands and
+/// where memory ran out for the next one, and the two hosts that restart are sound; the acts of its commands are one
+/// list, which leads to each of these worlds, and by it clients are handed what was sent, and send tokens come back;
+/// where injections are left, maps are doubtful and installations miss hosts only by faults or lost cables, and settles
+/// end settled; and what the sink took is a prefix of the report, after a failed write and where memory ran out.
 pub fn what_promises_imply()
     ensures moments { (a : AcceptedText) → IsPromised a → HasSoundMoments a }
     ensures acts { (a : AcceptedText) → IsPromised a → HasActs a }

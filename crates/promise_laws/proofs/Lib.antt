@@ -3,6 +3,7 @@ pub mod Begun
 pub mod CutShort
 pub mod Duos
 pub mod DuoLines
+pub mod Moments
 pub mod OneAction
 pub mod OneChannel
 pub mod Plugs

@@ -3,12 +3,11 @@ use Rattle.std.proofs.Common.{◌≡◌, List, [], ◌∷◌, ◌++◌, refl, sy
 use Rattle.std.specs.List.{AllByRecursion}
 use Rattle.net_defs.specs.Network.{Network, IsFabric}
 use Rattle.net_defs.proofs.Distinct.{all-push}
-use Rattle.world_defs.specs.World.{new_world}
 use Rattle.world_defs.specs.Acts.{acted_all, MayActAll}
 use Rattle.run_defs.specs.declared.command.Command.{Command}
 use Rattle.run_defs.specs.Output.{Piece}
 use Rattle.run_defs.specs.Session.{SessionState}
-use Rattle.run_defs.specs.Deed.{Deed, session_after}
+use Rattle.run_defs.specs.Deed.{session_after}
 use Rattle.run_defs.specs.Run.{IsDeed, Runs, IsRun}
 use Rattle.run_defs.specs.Run.Runs.{ended, goes_on}
 use Rattle.run_defs.proofs.Doing.{does-world}

@@ -6,6 +6,7 @@ pub mod DuoPolls
 pub mod Duos
 pub mod Examples
 pub mod Existence
+pub mod Moments
 pub mod OneAction
 pub mod Promised
 pub mod ReceivedLines

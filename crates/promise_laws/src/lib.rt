@@ -6,13 +6,14 @@
 //! | file of `specs/` | says |
 //! |---|---|
 //! | `CableLines` | what lines `pull`, `plug`, `revoked` say: which cables came and went, who gave up an epoch |
-//! | `CommandActs` | that the acts of a command's deed may happen, each one action; those of a run lead to its last world |
+//! | `CommandActs` | that the acts of a command's deed may happen, each one action; where those of a run lead |
 //! | `CutShort` | that a command is cut short, and a map that was begun |
 //! | `Duos` | what a command depends on, of the two hosts that restart, and what they come to in a run |
 //! | `DuoPolls`, `DuoExamples` | what lines `duo received` show, against what each incarnation got; an example |
 //! | `OneAction` | whose an act is, and that it is one action, of one host, of one channel or of one cable |
 //! | `Existence` | each command is one deed after every run, and so there is a run |
 //! | `ReceivedLines` | what lines `received` show, against `send` lines with a token: once, in order, byte for byte |
+//! | `Moments` | what holds of every reached world: tables, packets, windows, queues and buffers too |
 //! | `Promised` | every moment is sound, and every run keeps its promise |
 //! | `Scripts` | what every script promises that is read without a fault |
 //! | `Examples` | whose acts of a message's way are, and how epochs follow |
@@ -35,7 +36,7 @@ pub use command_acts::{
 pub use duo_lines::{dependence_on_the_duo, duos_of_runs};
 pub use duo_polls::{duo_lines_of_messages, duo_message_in_lines};
 pub use existence::runs_exist;
-pub use promises::{promises_of_runs, sound_moments};
+pub use promises::{promises_of_runs, right_worlds, sound_moments};
 pub use received_lines::lines_of_messages;
 pub use scripts::{acts_of_scripts, maps_of_scripts};
 pub use worked::{actors_of_acts, epochs_that_follow, message_in_lines};
