@@ -14,9 +14,7 @@ use Rattle.map_laws.proofs.Connected.{quotient_is_connected}
 use Rattle.map_laws.proofs.Size.{right_map_is_no_larger}
 use Rattle.cable_history.specs.History.{fabric_at}
 use Rattle.cable_history.proofs.Now.{last_is_now}
-use Rattle.link_defs.specs.Links.{is_idle}
-use Rattle.link_defs.proofs.Shapes.{empty-idle}
-use Rattle.world_defs.specs.World.{WorldState, fabric_of, host_count, new_world}
+use Rattle.world_defs.specs.World.{WorldState, fabric_of, host_count}
 use Rattle.route_install.specs.Installing.{AreHosts}
 use Rattle.adopted_routes.specs.Adopting.{IsAdoptable, is_among}
 use Rattle.fab_world.specs.Events.{IsHostOf}
@@ -58,10 +56,6 @@ kept-map S asked n host depth drowned before after m fabric low made says rules 
           (λ v l. (let r = quotient_is_connected host depth made.journal k.unmarked made.grown k.quotient v l in record { cables = r.cables; path = r.path }));
       few = omega (arith, small, few);
     }
-
--- no packet is on its way in a new world
-pub new-idle : (w : WorldState) (n : Network) → w ≡ new_world n → is_idle w.links ≡ true
-new-idle w n new = ap (λ v. is_idle v.links) new ∙ empty-idle n
 
 -- the hosts of a map in a world, by address
 abbrev hosts_in : WorldState → NetMap → List ℕ
@@ -112,7 +106,3 @@ pub kept-new : {E : Type 0} (r : Result NetMap E) (v w : WorldState) (made host 
 kept-new r v w made host same none first kept =
     subst (λ (u : WorldState). IfOk r (IsKeptMap (fabric_at u.links.cables 0) 0)) (sym same)
     (subst (λ k. IfOk r (IsKeptMap (fabric_at v.links.cables 0) k)) first (subst (λ k. IfOk r (IsKeptMap (fabric_at v.links.cables k) host)) none kept))
-
--- no cable changed in a new world
-pub new-unchanged : (w : WorldState) (n : Network) → w ≡ new_world n → w.links.cables.changes ≡ 0
-new-unchanged w n new = ap (λ v. v.links.cables.changes) new

@@ -8,7 +8,7 @@
 //! ```
 #![tactic(auto)]
 
-ghost use Rattle.std.specs.Prelude.{◌≡◌, length, true, IfOk, OnOk};
+ghost use Rattle.std.specs.Prelude.{◌≡◌, ◌≤◌, length, true, IfOk, OnOk};
 ghost use Rattle.cable_history.specs.History.{fabric_at};
 ghost use Rattle.link_defs.specs.Links.{is_idle};
 ghost use Rattle.world_defs.specs.World.{fabric_of, host_count};
@@ -16,9 +16,10 @@ ghost use Rattle.fab_world.specs.Events.{IsGiven};
 ghost use Rattle.route_making.specs.Kept.{IsKeptMap};
 
 use anyhow::{Context, Result, bail, ensure};
-use fab_world::{Event, PortAt, Said, World};
+use fab_world::{Event, Fault, PortAt, Said, World};
 use fabric_file::read_fabric;
 use map_making::{FabricMap, MapWords, make_map};
+use net_defs::{Answer, Walk};
 use probe::Prober;
 use route_calc::routes;
 use route_making::hosts_of_map;
@@ -31,14 +32,79 @@ const FABRIC: &[u8] =
     b"host ann\nhost ben\nswitch hub 8\ncable ann 0 hub 2\ncable ben 0 hub 5\nscript\n";
 
 fn main(rt: HostRuntime) -> Result<()> {
-    let fabric = read_fabric(rt.alloc(), FABRIC)?.fabric;
-    ensure!(fabric.hosts() == 2, "the fabric hasn't two hosts");
-    let mut prober = WorldProber::new(rt.alloc(), World::new(rt.alloc(), fabric)?, 0, 1);
+    asks(&rt, new_world(&rt)?)?;
+    asks(&rt, lossy_world(&rt)?)?;
+    let mut prober = WorldProber::new(rt.alloc(), new_world(&rt)?, 0, 1);
     let map = complete_map(&rt, &mut prober);
     let mut world = prober.into_world();
     let done = talk(&rt, &mut world, map);
     world.end();
     done
+}
+
+// A new world of the fabric.
+fn new_world(rt: &HostRuntime) -> Result<World>
+    ensures idle { IfOk result (λ w. is_idle w.links ≡ true) }
+    ensures unchanged { IfOk result (λ w. w.links.cables.changes ≡ 0) }
+    ensures two { IfOk result (λ w. length (fabric_of w).hosts ≡ 2) }
+    ensures there { IfOk result (λ w. host_count w ≡ 2) }
+{
+    let fabric = read_fabric(rt.alloc(), FABRIC)?.fabric;
+    ensure!(fabric.hosts() == 2, "the fabric hasn't two hosts");
+    let world = World::new(rt.alloc(), fabric)?;
+    Ok(world)
+}
+
+// One in which the third packet that is injected is lost.
+fn lossy_world(rt: &HostRuntime) -> Result<World>
+    ensures idle { IfOk result (λ w. is_idle w.links ≡ true) }
+    ensures there { IfOk result (λ w. host_count w ≡ 2) }
+{
+    let mut world = new_world(rt)?;
+    let Ok(_) = world.plan(3, Fault::Lose) else {
+        world.end();
+        bail!("no memory for the plan");
+    };
+    Ok(world)
+}
+
+// Asks three walks from host 0.
+fn asks(rt: &HostRuntime, world: World) -> Result<()>
+    requires idle { is_idle world.links ≡ true }
+    requires there { host_count world ≡ 2 }
+{
+    let mut prober = WorldProber::new(rt.alloc(), world, 0, 1);
+    let told = answers(rt, &mut prober);
+    let drowned = prober.drowned();
+    let world = prober.into_world();
+    let (injected, dropped) = (world.injected(), world.dropped());
+    world.end();
+    println!(rt;
+        "{:?}: drowned {drowned}, injected {injected}, dropped {dropped}",
+        told?
+    )?;
+    Ok(())
+}
+
+// The empty walk ends at the switch. A turn of 3 leads on to the other host, and one of 4 to a port without a cable.
+fn answers(rt: &HostRuntime, prober: &mut WorldProber) -> Result<[Answer; 3]>
+    requires idle { is_idle prober.old.world.links ≡ true }
+{
+    Ok([
+        ask(rt, prober, &[])?,
+        ask(rt, prober, &[3])?,
+        ask(rt, prober, &[4])?,
+    ])
+}
+
+// Asks a walk.
+fn ask(rt: &HostRuntime, prober: &mut WorldProber, turns: &[i8]) -> Result<Answer>
+    requires few { length turns.now ≤ 31 }
+    requires idle { is_idle prober.old.world.links ≡ true }
+    ensures idle { OnOk result (is_idle prober.new.world.links ≡ true) }
+{
+    let walk = Walk::new(rt.alloc(), turns)?;
+    Ok(prober.ask(&walk)?)
 }
 
 // Maps from the prober's host by probe packets, four cables deep.
