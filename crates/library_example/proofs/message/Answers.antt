@@ -1,5 +1,4 @@
-use Rattle.std.proofs.Common.{◌≡◌, ◌<◌, arith}
-use Rattle.world_defs.specs.World.{host_count}
+use Rattle.std.proofs.Common.{arith}
 use Rattle.library_example.proofs.Given.{begun, provided, sent, polled, poll_called}
 use Rattle.library_example.proofs.message.Goals as goal
 

@@ -1,9 +1,7 @@
 use Rattle.std.proofs.Common.{◌≡◌, ◌∙◌, ℕ, List, nat_eq, sym, ap, subst}
 use Rattle.std.specs.List.{list_any}
-use Rattle.world_defs.specs.World.{fabric_of}
 use Rattle.route_install.specs.Installing.{AreHosts}
 use Rattle.adopted_routes.specs.Adopting.{is_among}
-use Rattle.route_making.specs.Kept.{IsKeptMap}
 use Rattle.route_making.specs.Listed.{map_hosts_below}
 use Rattle.library_example.proofs.Kept.{adoptable, adopter-there, installable, unchanged-kept}
 use Rattle.library_example.proofs.talk.Goals as goal
