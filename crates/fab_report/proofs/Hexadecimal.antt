@@ -3,7 +3,7 @@ use Rattle.std.proofs.Common.{◌≡◌, ℕ, zero, suc, ◌/◌, ◌%◌, ◌<�
 use Rattle.std.specs.Prelude.{flat_map}
 use Rattle.std.proofs.lemmas.Bool.{and_parts, cases_lt, eqb-true}
 use Rattle.hex.specs.Hex.{IsBytes, encode_with, encode_lower, lower_digits}
-use Rattle.run_defs.specs.LineText.{hex_digit, hex_text}
+use Rattle.line_table.specs.Texts.{hex_digit, hex_text}
 
 -- the first places of the table have the digits
 abbrev same_below : ℕ → Bool

@@ -3,8 +3,6 @@ use Rattle.std.proofs.Common.{◌≡◌, ℕ, Bool, List, [], ◌∷◌, ◌++�
 use Rattle.std.specs.Prelude.{flat_map}
 use Rattle.net_defs.specs.declared.vertex.Vertex.{Vertex}
 use Rattle.net_defs.specs.declared.vertex.Vertex.TheVariants.{Host, Switch}
-use Rattle.net_defs.specs.declared.place.Place.{Place}
-use Rattle.net_defs.specs.declared.place.Place.TheVariants.{Host as AtHost, Switch as AtSwitch, Nothing as Stuck}
 use Rattle.net_defs.specs.Network.{Network, NamedSwitch}
 use Rattle.net_defs.specs.Building.{name_of}
 use Rattle.map_defs.specs.declared.vertex.MapVertex.{MapVertex}
@@ -12,13 +10,11 @@ use Rattle.map_defs.specs.declared.vertex.MapVertex.TheVariants.{Host as MapHost
 use Rattle.map_defs.specs.declared.vertex.MapCable.{MapCable}
 use Rattle.map_defs.specs.NetMap.{NetMap}
 use Rattle.fab_text.specs.Written.{line_text as line_of}
-use Rattle.world_defs.specs.declared.effect.Said.{Said}
-use Rattle.world_defs.specs.declared.effect.Said.TheVariants.{Done}
-use Rattle.run_defs.specs.declared.line.StepWords.{StepWords}
-use Rattle.run_defs.specs.declared.line.StepWords.TheVariants.{Moved, Blocked, Replayed}
-use Rattle.run_defs.specs.declared.line.Line.{Line}
-use Rattle.run_defs.specs.declared.line.Line.TheVariants.{Walk, Rank, Client, Step, Pull, Plug}
-use Rattle.run_defs.specs.LineText.{call_word, host_name, pull_words, plug_words, walk_words, said_words, step_words, turn_text, vertex_text, vertex_words, vertices_text, vertex_at, cable_words, map_text, words_in, piece_text, output_text}
+use Rattle.line_table.specs.Texts.{turn_text, vertex_text}
+use Rattle.line_table.specs.Form.{Slot, Fixed, Of, AnEnd, AnEndBy, Rest, LineValue, VertexAt, EndAt, words_of_value, words_by, fill}
+use Rattle.line_table.specs.Table.{form_of}
+use Rattle.run_defs.specs.LineRows.{line_kind, line_values}
+use Rattle.run_defs.specs.LineText.{vertex_words, vertices_text, vertex_at, cable_words, map_text, piece_text, output_text}
 use Rattle.run_defs.specs.Output.{Piece, OneLine, MapLines}
 use Rattle.run_defs.specs.Summary.{figures_in}
 use Rattle.fab_report.specs.Printed.{printed_of}
@@ -31,36 +27,36 @@ name-bare : (n : Network) (v : Vertex) → name_of n v ≡ name_of (bare n) v
 name-bare n (Host h) = refl
 name-bare n (Switch s) = refl
 
--- line by line
-walk-bare : (n : Network) (p : Place) → walk_words n p ≡ walk_words (bare n) p
-walk-bare n (AtHost h) = refl
-walk-bare n (AtSwitch s p) = refl
-walk-bare n Stuck = refl
-
-said-bare : (n : Network) (said : Said) → said_words n said ≡ said_words (bare n) said
-said-bare n Done = refl
-said-bare n _ = refl
-
-step-bare : (n : Network) (words : StepWords) → step_words n words ≡ step_words (bare n) words
-step-bare n (Moved e) = ap (λ name. codes "moved" ∷ name ∷ decimal e.p ∷ []) (name-bare n e.v)
-step-bare n (Blocked e) = ap (λ name. codes "blocked" ∷ name ∷ decimal e.p ∷ []) (name-bare n e.v)
-step-bare n (Replayed e) = ap (λ name. codes "replayed" ∷ name ∷ decimal e.p ∷ []) (name-bare n e.v)
-step-bare n _ = refl
-
+-- the words of each value
 vertex-bare : (n : Network) (v : MapVertex) → vertex_text n v ≡ vertex_text (bare n) v
 vertex-bare n (MapHost h) = refl
 vertex-bare n (MapSwitch s) = refl
 
-words-bare : (n : Network) (l : Line) → words_in n l ≡ words_in (bare n) l
-words-bare n (Walk place) = ap (λ ws. codes "walk" ∷ ws) (walk-bare n place)
-words-bare n (Rank v p rank) = ap (λ text. codes "rank" ∷ text ∷ turn_text p ∷ decimal rank ∷ []) (vertex-bare n v)
-words-bare n (Client call host port said) = ap (λ ws. call_word call ∷ host_name n host ∷ decimal port ∷ ws) (said-bare n said)
-words-bare n (Step words) = ap (λ ws. codes "step" ∷ ws) (step-bare n words)
-words-bare n (Pull at done) = ap (λ name. codes "pull" ∷ name ∷ decimal at.p ∷ pull_words done) (name-bare n at.v)
-words-bare n (Plug a b words) =
-    ap (λ name. codes "plug" ∷ name ∷ decimal a.p ∷ name_of n b.v ∷ decimal b.p ∷ plug_words words) (name-bare n a.v)
-    ∙ ap (λ name. codes "plug" ∷ name_of (bare n) a.v ∷ decimal a.p ∷ name ∷ decimal b.p ∷ plug_words words) (name-bare n b.v)
-words-bare n _ = refl
+value-bare : (n : Network) (v : LineValue) → words_of_value n v ≡ words_of_value (bare n) v
+value-bare n (VertexAt v) = ap (λ w. w ∷ []) (vertex-bare n v)
+value-bare n (EndAt e) = ap (λ w. w ∷ decimal e.p ∷ []) (name-bare n e.v)
+value-bare n _ = refl
+
+by-bare : (n : Network) (w : List ℕ) (v : LineValue) → words_by n w v ≡ words_by (bare n) w v
+by-bare n w (VertexAt v) = ap (λ x. x ∷ []) (vertex-bare n v)
+by-bare n w (EndAt e) = ap (λ x. x ∷ w ∷ decimal e.p ∷ []) (name-bare n e.v)
+by-bare n w _ = refl
+
+values-bare : (n : Network) (vs : List LineValue) → flat_map (words_of_value n) vs ≡ flat_map (words_of_value (bare n)) vs
+values-bare n [] = refl
+values-bare n (v ∷ vs) = λ i. value-bare n v i ++ values-bare n vs i
+
+-- and those of a form with its values
+fill-bare : (n : Network) (ss : List Slot) (vs : List LineValue) → fill n ss vs ≡ fill (bare n) ss vs
+fill-bare n [] vs = refl
+fill-bare n (Fixed w ∷ ss) vs = ap (λ ws. w ∷ ws) (fill-bare n ss vs)
+fill-bare n (Of k ∷ ss) [] = refl
+fill-bare n (Of k ∷ ss) (v ∷ vs) = λ i. value-bare n v i ++ fill-bare n ss vs i
+fill-bare n (AnEnd ∷ ss) [] = refl
+fill-bare n (AnEnd ∷ ss) (v ∷ vs) = λ i. value-bare n v i ++ fill-bare n ss vs i
+fill-bare n (AnEndBy w ∷ ss) [] = refl
+fill-bare n (AnEndBy w ∷ ss) (v ∷ vs) = λ i. by-bare n w v i ++ fill-bare n ss vs i
+fill-bare n (Rest k ∷ ss) vs = values-bare n vs
 
 -- the lines of a map
 marked-bare : (n : Network) (v : MapVertex) (core : Bool) → vertex_words n v core ≡ vertex_words (bare n) v core
@@ -94,7 +90,7 @@ map-bare n m =
 
 -- all that is printed
 piece-bare : (n : Network) (p : Piece) → piece_text n p ≡ piece_text (bare n) p
-piece-bare n (OneLine l) = ap line_of (words-bare n l)
+piece-bare n (OneLine l) = ap line_of (fill-bare n (form_of (line_kind l)) (line_values l))
 piece-bare n (MapLines m) = map-bare n m
 
 printed-bare : (n : Network) (out : List Piece) → printed_of n out ≡ printed_of (bare n) out

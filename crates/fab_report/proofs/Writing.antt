@@ -9,8 +9,11 @@ use Rattle.net_defs.specs.Network.{Network}
 use Rattle.fab_text.specs.Written.{spaced}
 use Rattle.line_writing.proofs.Written.{spaced_behind}
 use Rattle.run_defs.specs.declared.line.PlaceEntry.{PlaceEntry}
-use Rattle.run_defs.specs.declared.line.Line.TheVariants.{Tokens}
-use Rattle.run_defs.specs.LineText.{turn_text, place_text, host_name, words_in}
+use Rattle.run_defs.specs.declared.line.Line.TheVariants.{Route, Tokens}
+use Rattle.line_table.specs.Texts.{turn_text, host_name}
+use Rattle.run_defs.specs.LineRows.{place_text}
+use Rattle.run_defs.specs.LineText.{words_in}
+use Rattle.run_defs.proofs.RowWords.{route-words, tokens-words}
 use Rattle.fab_report.specs.Words.{behind}
 
 -- words with one space between them are the first, and two lists of others after it
@@ -31,16 +34,20 @@ continued old w ws vs e f =
     two old (spaced (w ∷ ws)) (behind vs) e f
     ∙ ap (λ t. old ++ t) (ap (λ t. t ++ behind vs) (spaced_behind w ws) ∙ append_assoc w (behind ws) (behind vs) ∙ sym (spaced_both w ws vs))
 
+-- the same where they are the words of a whole line
+pub line_continued : (old w : List ℕ) (ws vs line : List (List ℕ)) {t u : List ℕ} → w ∷ (ws ++ vs) ≡ line → t ≡ old ++ spaced (w ∷ ws) → u ≡ t ++ behind vs → u ≡ old ++ spaced line
+line_continued old w ws vs line whole e f = continued old w ws vs e f ∙ ap (λ l. old ++ spaced l) whole
+
 -- words after others, and more after them
 pub followed_by : (old : List ℕ) (ws vs : List (List ℕ)) {t u : List ℕ} → t ≡ old ++ behind ws → u ≡ t ++ behind vs → u ≡ old ++ behind (ws ++ vs)
 followed_by old ws vs e f = two old (behind ws) (behind vs) e f ∙ ap (λ t. old ++ t) (sym (flat_map-append (λ x. 32 ∷ x) ws vs))
 
 -- a route with its turns
-pub routed : (old s r : List ℕ) (ts : List ℤ) {t u : List ℕ} → t ≡ old ++ spaced (codes "route" ∷ s ∷ r ∷ [])
+pub routed : (n : Network) (old : List ℕ) (from to : ℕ) (ts : List ℤ) {t u : List ℕ} → t ≡ old ++ spaced (codes "route" ∷ host_name n from ∷ host_name n to ∷ [])
     → u ≡ t ++ flat_map (λ x. 32 ∷ turn_text x) ts
-    → u ≡ old ++ spaced (codes "route" ∷ s ∷ r ∷ map turn_text ts)
-routed old s r ts {t} e f =
-    continued old (codes "route") (s ∷ r ∷ []) (map turn_text ts) e (f ∙ ap (λ x. t ++ x) (sym (flat_map-map (λ w. 32 ∷ w) turn_text ts)))
+    → u ≡ old ++ spaced (words_in n (Route from to ts))
+routed n old from to ts {t} e f =
+    line_continued old (codes "route") (host_name n from ∷ host_name n to ∷ []) (map turn_text ts) (words_in n (Route from to ts)) (sym (route-words n from to ts)) e (f ∙ ap (λ x. t ++ x) (sym (flat_map-map (λ w. 32 ∷ w) turn_text ts)))
 
 -- tokens with their places after a word
 places_behind : (ps : List PlaceEntry) → behind (map place_text ps) ≡ flat_map (λ p. 32 ∷ place_text p) ps
@@ -63,7 +70,8 @@ pub tokens_written : (n : Network) (host port : ℕ) (xs ys : List PlaceEntry) {
     → w ≡ v ++ flat_map (λ x. 32 ∷ place_text x) ys
     → w ≡ spaced (words_in n (Tokens host port xs ys))
 tokens_written n host port xs ys {t} e f g h =
-    continued [] (codes "tokens") (host_name n host ∷ decimal port ∷ codes "send" ∷ []) (map place_text xs ++ codes "recv" ∷ map place_text ys) e (placed t xs ys f g h)
+    line_continued [] (codes "tokens") (host_name n host ∷ decimal port ∷ codes "send" ∷ []) (map place_text xs ++ codes "recv" ∷ map place_text ys)
+    (words_in n (Tokens host port xs ys)) (sym (tokens-words n host port xs ys)) e (placed t xs ys f g h)
 
 -- three bytes after a text, one after the other
 pub three : (old : List ℕ) (a b c : ℕ) {t u v : List ℕ} → t ≡ old ++ a ∷ [] → u ≡ t ++ b ∷ [] → v ≡ u ++ c ∷ [] → v ≡ old ++ a ∷ b ∷ c ∷ []

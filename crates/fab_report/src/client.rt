@@ -2,11 +2,14 @@
 
 ghost use Rattle.std.specs.Prelude.{◌≡◌, ◌++◌, ◌∷◌, [], OnOk, codes, decimal, length};
 ghost use Rattle.fab_text.specs.Written.{spaced};
-ghost use Rattle.run_defs.specs.LineText.{call_word, client_cause, hex_text, said_words, words_in};
+ghost use Rattle.run_defs.specs.LineRows.{call_word};
+ghost use Rattle.net_defs.specs.Network.{Network};
+ghost use Rattle.run_defs.specs.LineText.{words_in};
+ghost use Rattle.line_table.specs.Texts.{hex_text};
 ghost use Rattle.run_defs.specs.declared.line.Line.TheVariants.{Client};
-ghost use Rattle.world_defs.specs.declared.effect.Said.TheVariants.{Received};
+ghost use Rattle.world_defs.specs.declared.effect.Said.TheVariants.{Received, Refused};
 ghost use Rattle.fab_report.specs.There.{IsHost, IsSaidOf};
-ghost use Rattle.fab_report.specs.Words.{behind};
+ghost use Rattle.fab_report.specs.Words.{behind, said_words};
 
 use crate::words::{append_numbered, bytes_word};
 use line_writing::Word::{Number, Text};
@@ -131,7 +134,7 @@ fn append_body(text: &mut Vec<u8>, prio: u8, body: &[u8]) -> Result<(), AllocErr
 
 // Why the call is refused, after other words.
 fn append_refused(text: &mut Vec<u8>, cause: ClientCause) -> Result<(), AllocError>
-    ensures { OnOk result (text.new.items ≡ text.old.items ++ behind (codes "refused" ∷ client_cause cause)) }
+    ensures { OnOk result ((n : Network) → text.new.items ≡ text.old.items ++ behind (said_words n (Refused cause))) }
 {
     let refused = Text(b"refused");
     match cause {

@@ -2,7 +2,11 @@
 
 ghost use Rattle.std.specs.Prelude.{◌≡◌, ◌++◌, ◌∷◌, [], OnOk, codes, decimal};
 ghost use Rattle.fab_text.specs.Written.{spaced};
-ghost use Rattle.run_defs.specs.LineText.{duo_cause, duo_words, hex_text};
+ghost use Rattle.run_defs.specs.LineRows.{duo_cause};
+ghost use Rattle.net_defs.specs.Network.{Network};
+ghost use Rattle.run_defs.specs.LineText.{words_in};
+ghost use Rattle.run_defs.specs.declared.line.Line.TheVariants.{Duo};
+ghost use Rattle.line_table.specs.Texts.{hex_text};
 
 use crate::words::{append_numbered, bytes_word};
 use line_writing::{append_bytes, append_spaced};
@@ -11,7 +15,8 @@ use std::alloc::AllocError;
 
 /// `duo EFFECT`, without a word made first.
 pub(crate) fn duo_line(text: &mut Vec<u8>, effect: &DuoEffect) -> Result<(), AllocError>
-    ensures { OnOk result (text.new.items ≡ text.old.items ++ spaced (codes "duo" ∷ duo_words effect.now)) }
+    ensures { OnOk result ((n : Network) → text.new.items ≡ text.old.items
+        ++ spaced (words_in n (Duo effect.now))) }
 {
     match effect {
         DuoEffect::Token(token) => append_numbered(text, b"duo token", u64::from(*token)),

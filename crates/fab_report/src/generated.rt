@@ -3,7 +3,8 @@
 ghost use Rattle.std.specs.Prelude.{◌≡◌, ◌++◌, ◌∷◌, [], OnOk, codes, decimal};
 ghost use Rattle.fab_text.specs.Written.{spaced};
 ghost use Rattle.net_defs.specs.Network.{Network};
-ghost use Rattle.run_defs.specs.LineText.{map_words, words_in};
+ghost use Rattle.run_defs.specs.LineText.{words_in};
+ghost use Rattle.run_defs.specs.declared.line.Line.TheVariants.{GenMap};
 ghost use Rattle.fab_report.specs.Kinds.{IsGeneratedLine};
 
 use crate::mapping::append_map_words;
@@ -81,9 +82,8 @@ fn gen_map_line(
     asks: u64,
     packets: u64,
 ) -> Result<(), AllocError>
-    ensures { OnOk result (text.new.items ≡ text.old.items
-        ++ spaced (codes "map" ∷ (map_words words ++ codes "asks" ∷ decimal asks ∷ codes "packets" ∷ decimal packets
-        ∷ []))) }
+    ensures { OnOk result ((n : Network) → text.new.items ≡ text.old.items
+        ++ spaced (words_in n (GenMap words asks packets))) }
 {
     append_words(text, &[Text(b"map")])?;
     append_map_words(text, words, asks, packets)

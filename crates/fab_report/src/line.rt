@@ -1,12 +1,14 @@
 //! A line of a report, by its kind.
 
-ghost use Rattle.std.specs.Prelude.{◌≡◌, ◌++◌, ◌∷◌, [], IfOk, OnOk, codes, decimal};
+ghost use Rattle.std.specs.Prelude.{◌≡◌, ◌++◌, IfOk, OnOk};
+ghost use Rattle.net_defs.specs.Network.{empty_network};
 ghost use Rattle.net_defs.specs.Route.{IsPlaceOf};
 ghost use Rattle.fab_text.specs.Written.{spaced};
-ghost use Rattle.fab_text.specs.Fault.{kind_word};
-ghost use Rattle.run_defs.specs.LineText.{install_cause, line_text, words_in};
+ghost use Rattle.run_defs.specs.LineRows.{install_cause};
+ghost use Rattle.run_defs.specs.LineText.{line_text, words_in};
 ghost use Rattle.run_defs.specs.Run.{route_line};
-ghost use Rattle.run_defs.specs.declared.line.Line.TheVariants.{Walk, Table};
+ghost use Rattle.run_defs.specs.declared.line.Line.TheVariants.{Refused, Walk, Installed, Table, InstallRefused};
+ghost use Rattle.run_defs.specs.declared.line.Line.TheVariants.{PlanAt, Settle, Finish};
 ghost use Rattle.fab_report.specs.Kinds.{IsPortLine};
 ghost use Rattle.fab_report.specs.There.{AreThere, IsHost};
 
@@ -129,8 +131,7 @@ fn append_port_line(text: &mut Vec<u8>, l: &Line, f: &Fabric) -> Result<(), Allo
 
 // `refused LINE KIND`
 fn refused_line(text: &mut Vec<u8>, line: u32, kind: FaultKind) -> Result<(), AllocError>
-    ensures { OnOk result (text.new.items ≡ text.old.items
-        ++ spaced (codes "refused" ∷ decimal line ∷ kind_word kind ∷ [])) }
+    ensures { OnOk result (text.new.items ≡ text.old.items ++ spaced (words_in empty_network (Refused line kind))) }
 {
     let line = Number(u64::from(line));
     append_words(text, &[Text(b"refused"), line, Text(kind.word())])
@@ -158,8 +159,7 @@ fn walk_line(text: &mut Vec<u8>, f: &Fabric, place: Place) -> Result<(), AllocEr
 
 // `installed K of N`
 fn installed_line(text: &mut Vec<u8>, acked: u16, of: u16) -> Result<(), AllocError>
-    ensures { OnOk result (text.new.items ≡ text.old.items
-        ++ spaced (codes "installed" ∷ decimal acked ∷ codes "of" ∷ decimal of ∷ [])) }
+    ensures { OnOk result (text.new.items ≡ text.old.items ++ spaced (words_in empty_network (Installed acked of))) }
 {
     let acked = Number(u64::from(acked));
     let of = Number(u64::from(of));
@@ -182,7 +182,7 @@ fn table_line(text: &mut Vec<u8>, f: &Fabric, host: u16, active: bool) -> Result
 // `install refused CAUSE`
 fn install_refused_line(text: &mut Vec<u8>, cause: InstallCause) -> Result<(), AllocError>
     ensures { OnOk result (text.new.items ≡ text.old.items
-        ++ spaced (codes "install" ∷ codes "refused" ∷ install_cause cause ∷ [])) }
+        ++ spaced (words_in empty_network (InstallRefused cause))) }
 {
     let cause = Text(install_word(cause));
     append_words(text, &[Text(b"install"), Text(b"refused"), cause])
@@ -203,8 +203,7 @@ fn install_word(cause: InstallCause) -> &'static [u8]
 
 // `plan at N`
 fn plan_line(text: &mut Vec<u8>, number: u128) -> Result<(), AllocError>
-    ensures { OnOk result (text.new.items ≡ text.old.items
-        ++ spaced (codes "plan" ∷ codes "at" ∷ decimal number ∷ [])) }
+    ensures { OnOk result (text.new.items ≡ text.old.items ++ spaced (words_in empty_network (PlanAt number))) }
 {
     let mut buffer = Buffer::new();
     append_bytes(text, b"plan at ")?;
@@ -214,8 +213,7 @@ fn plan_line(text: &mut Vec<u8>, number: u128) -> Result<(), AllocError>
 // `settle rounds R resets N unacked U`
 fn settle_line(text: &mut Vec<u8>, rounds: u64, resets: u64, unacked: u64) -> Result<(), AllocError>
     ensures { OnOk result (text.new.items ≡ text.old.items
-        ++ spaced (codes "settle" ∷ codes "rounds" ∷ decimal rounds ∷ codes "resets" ∷ decimal resets
-        ∷ codes "unacked" ∷ decimal unacked ∷ [])) }
+        ++ spaced (words_in empty_network (Settle rounds resets unacked))) }
 {
     append_numbered(text, b"settle rounds", rounds)?;
     append_numbered(text, b" resets", resets)?;
@@ -225,7 +223,7 @@ fn settle_line(text: &mut Vec<u8>, rounds: u64, resets: u64, unacked: u64) -> Re
 // `end injected N dropped M`
 fn end_line(text: &mut Vec<u8>, injected: u64, dropped: u64) -> Result<(), AllocError>
     ensures { OnOk result (text.new.items ≡ text.old.items
-        ++ spaced (codes "end" ∷ codes "injected" ∷ decimal injected ∷ codes "dropped" ∷ decimal dropped ∷ [])) }
+        ++ spaced (words_in empty_network (Finish injected dropped))) }
 {
     append_words(
         text,

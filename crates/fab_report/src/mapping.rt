@@ -2,11 +2,12 @@
 
 ghost use Rattle.std.specs.Prelude.{◌≡◌, ◌<◌, ◌≤◌, ◌++◌, ◌∷◌, [], OnOk, codes, decimal, flat_map};
 ghost use Rattle.fab_text.specs.Written.{spaced};
-ghost use Rattle.run_defs.specs.LineText.{map_words, turn_text, words_in};
+ghost use Rattle.run_defs.specs.LineText.{words_in};
+ghost use Rattle.line_table.specs.Texts.{turn_text};
 ghost use Rattle.run_defs.specs.declared.line.Line.TheVariants.{Map, MapBusy, Route, Rank};
 ghost use Rattle.fab_report.specs.Kinds.{IsMapLine};
 ghost use Rattle.fab_report.specs.There.{AreThere, IsHost, IsVertexOf};
-ghost use Rattle.fab_report.specs.Words.{behind};
+ghost use Rattle.fab_report.specs.Words.{behind, known_words};
 
 use crate::circuit::{circuit_line, circuit_nodes_line};
 use crate::words::{turn_word, vertex_word};
@@ -67,7 +68,7 @@ pub(crate) fn append_map_words(
     packets: u64,
 ) -> Result<(), AllocError>
     ensures { OnOk result (text.new.items ≡ text.old.items
-        ++ behind (map_words words ++ codes "asks" ∷ decimal asks ∷ codes "packets" ∷ decimal packets ∷ [])) }
+        ++ behind (known_words words ++ codes "asks" ∷ decimal asks ∷ codes "packets" ∷ decimal packets ∷ [])) }
 {
     append_known(text, words)?;
     append_behind(
@@ -83,7 +84,7 @@ pub(crate) fn append_map_words(
 
 // How far a map is known to be right, after other words.
 fn append_known(text: &mut Vec<u8>, words: MapWords) -> Result<(), AllocError>
-    ensures { OnOk result (text.new.items ≡ text.old.items ++ behind (map_words words)) }
+    ensures { OnOk result (text.new.items ≡ text.old.items ++ behind (known_words words)) }
 {
     match words {
         MapWords::Complete => append_behind(text, &[Text(b"complete")]),

@@ -2,7 +2,9 @@
 
 ghost use Rattle.std.specs.Prelude.{◌≡◌, ◌++◌, ◌∷◌, [], OnOk, codes, decimal, flat_map, map};
 ghost use Rattle.fab_text.specs.Written.{spaced};
-ghost use Rattle.run_defs.specs.LineText.{host_name, place_text, place_word, words_in};
+ghost use Rattle.line_table.specs.Texts.{host_name};
+ghost use Rattle.run_defs.specs.LineRows.{place_text, place_word};
+ghost use Rattle.run_defs.specs.LineText.{words_in};
 ghost use Rattle.run_defs.specs.declared.line.Line.TheVariants.{Tokens};
 ghost use Rattle.fab_report.specs.There.{IsHost};
 ghost use Rattle.fab_report.specs.Words.{behind};

@@ -2,7 +2,8 @@
 
 ghost use Rattle.std.specs.Prelude.{◌≡◌, ◌++◌, ◌∷◌, [], IfOk, OnOk, codes, decimal};
 ghost use Rattle.fab_text.specs.Written.{spaced};
-ghost use Rattle.run_defs.specs.LineText.{host_name, place_text};
+ghost use Rattle.line_table.specs.Texts.{host_name};
+ghost use Rattle.run_defs.specs.LineRows.{place_text};
 ghost use Rattle.run_defs.specs.declared.line.Line.TheVariants.{Client, Duo};
 ghost use Rattle.run_defs.specs.Output.{OneLine};
 ghost use Rattle.run_defs.specs.Summary.{call_figures, figures_of};

@@ -3,7 +3,9 @@
 ghost use Rattle.std.specs.Prelude.{◌≡◌, ◌++◌, ◌∷◌, [], OnOk, IsTrue, codes, decimal};
 ghost use Rattle.net_defs.specs.Network.{has_vertex};
 ghost use Rattle.fab_text.specs.Written.{spaced};
-ghost use Rattle.run_defs.specs.LineText.{cause_word, end_words, heard_word, words_in};
+ghost use Rattle.run_defs.specs.LineRows.{cause_word, heard_word};
+ghost use Rattle.run_defs.specs.LineText.{words_in};
+ghost use Rattle.line_table.specs.Form.{EndAt, words_of_value};
 ghost use Rattle.run_defs.specs.declared.line.Line.TheVariants.{Step};
 ghost use Rattle.run_defs.specs.declared.line.StepWords.TheVariants.{Arrived};
 ghost use Rattle.fab_report.specs.There.{AreWordsOf, IsHost};
@@ -55,7 +57,8 @@ fn number_line(text: &mut Vec<u8>, word: &[u8], number: u64) -> Result<(), Alloc
 // `step WORD NAME PORT`
 fn end_line(text: &mut Vec<u8>, f: &Fabric, word: &'static [u8], e: End) -> Result<(), AllocError>
     requires { IsTrue (has_vertex f.now e.v) }
-    ensures { OnOk result (text.new.items ≡ text.old.items ++ spaced (codes "step" ∷ word.now ∷ end_words f.now e)) }
+    ensures { OnOk result (text.new.items ≡ text.old.items
+        ++ spaced (codes "step" ∷ word.now ∷ words_of_value f.now (EndAt e))) }
 {
     let name = Text(f.name_of(e.v));
     let port = Number(u64::from(e.p));

@@ -2,7 +2,7 @@
 
 ghost use Rattle.std.specs.Prelude.{◌≡◌, ◌++◌, ◌∷◌, OnOk, decimal};
 ghost use Rattle.line_writing.specs.Words.{word_text};
-ghost use Rattle.run_defs.specs.LineText.{hex_text, turn_text, vertex_text};
+ghost use Rattle.line_table.specs.Texts.{hex_text, turn_text, vertex_text};
 ghost use Rattle.fab_report.specs.There.{IsVertexOf};
 
 use line_writing::{Word, append_bytes, append_marked};

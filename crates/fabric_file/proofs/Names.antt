@@ -23,7 +23,7 @@ use Rattle.fab_text.specs.declared.fault.NumFault.TheVariants.{NotNumber, TooLar
 use Rattle.fab_text.specs.Fault.{as_kind}
 use Rattle.fabric_file.specs.Declaring.{number_word}
 use Rattle.fabric_file.specs.Reading.{AreNamed}
-use Rattle.fabric_file.proofs.PlainLines.{is_plain}
+use Rattle.fabric_file.specs.Plain.{is_plain}
 use Rattle.fabric_file.proofs.PlainWords.{number-plain, number-read}
 use Rattle.fabric_file.proofs.Cutting.{position-cons}
 

@@ -5,18 +5,7 @@ use Rattle.std.proofs.lemmas.Bool.Decides.{nat_tests}
 use Rattle.net_defs.proofs.Ends.{both}
 use Rattle.fab_text.specs.Line.{TextLine, lines_from, lines_left, saying, says_nothing, is_line_end, is_return, is_blank, begins_with_end, onto_first_line, words_of}
 use Rattle.fab_text.specs.Written.{spaced, line_text}
-
--- a byte that separates nothing: it is above a space
-abbrev pub is_plain_byte : ℕ → Bool
-is_plain_byte b = nat_lt 32 b
-
--- a word of such bytes
-abbrev pub is_plain : List ℕ → Bool
-is_plain [] = false
-is_plain (b ∷ bs) = list_all is_plain_byte (b ∷ bs)
-
-abbrev pub ArePlain : List (List ℕ) → Type 0
-ArePlain ws = AllByRecursion (λ w. is_plain w ≡ true) ws
+use Rattle.fabric_file.specs.Plain.{is_plain_byte, is_plain, ArePlain}
 
 -- a byte that ends no line
 abbrev is_inner : ℕ → Bool

@@ -8,7 +8,7 @@ use Rattle.std.proofs.lemmas.Fmt.{decimal_is_IsNumeral}
 use Rattle.net_defs.proofs.Ends.{both}
 use Rattle.fab_text.specs.declared.fault.NumFault.TheVariants.{NotNumber, TooLarge}
 use Rattle.fab_text.specs.Word.{is_digit, is_letter, is_name_byte, name_test, number_test, number_within}
-use Rattle.fabric_file.proofs.PlainLines.{is_plain_byte, is_plain}
+use Rattle.fabric_file.specs.Plain.{is_plain_byte, is_plain}
 
 digits-whole : (v : ℕ) → digits_onto 64 10 false v [] ≡ decimal v
 unfolding digits
@@ -81,7 +81,7 @@ name-byte-plain b e = grind (arith, nat_tests)
 pub digits-plain : (v : ℕ) → list_all is_plain_byte (decimal v) ≡ true
 digits-plain v = bytes-plain is_digit (decimal v) digit-plain (both (nat_lt 0 (length (decimal v))) (list_all is_digit (decimal v)) (number-any v)).1
 
-numeral-plain : (w : List ℕ) → number_test w ≡ true → is_plain w ≡ true
+pub numeral-plain : (w : List ℕ) → number_test w ≡ true → is_plain w ≡ true
 numeral-plain [] e = absurd (true≢false (sym e))
 numeral-plain (d ∷ ds) e = bytes-plain is_digit (d ∷ ds) digit-plain (both (nat_lt 0 (length (d ∷ ds))) (list_all is_digit (d ∷ ds)) e).1
 

@@ -7,7 +7,8 @@ use Rattle.fab_text.specs.Written.{line_text}
 use Rattle.fabric_file.specs.declared.reading.FabricText.{FabricText}
 use Rattle.fabric_file.specs.Declaring.{declared, is_script}
 use Rattle.fabric_file.specs.Reading.{fabric_from}
-use Rattle.fabric_file.proofs.PlainLines.{ArePlain, words-spaced, left-printed}
+use Rattle.fabric_file.specs.Plain.{ArePlain}
+use Rattle.fabric_file.proofs.PlainLines.{words-spaced, left-printed}
 
 -- what the lines from a line of these words on say
 abbrev from_words : ℕ → ℕ → Network → ℕ → List ℕ → List TextLine → List (List ℕ) → Result FabricText FirstFault

@@ -1,3 +1,4 @@
 pub mod Declaring
+pub mod Plain
 pub mod Printing
 pub mod Reading

@@ -9,7 +9,8 @@ use Rattle.fab_text.specs.Written.{line_text}
 use Rattle.run_defs.specs.declared.command.Command.{Command}
 use Rattle.run_defs.specs.declared.command.Command.TheVariants.{Finish}
 use Rattle.run_defs.specs.Script.{command_of, ended, is_end, script_from}
-use Rattle.fabric_file.proofs.PlainLines.{ArePlain, left-printed, words-spaced}
+use Rattle.fabric_file.specs.Plain.{ArePlain}
+use Rattle.fabric_file.proofs.PlainLines.{left-printed, words-spaced}
 use Rattle.fabric_gen.specs.Text.{lines_text}
 
 -- A line of these words says this command.

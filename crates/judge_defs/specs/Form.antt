@@ -34,7 +34,7 @@ use Rattle.report_lines.specs.declared.line.ReportLine.TheVariants.{Tokens as To
 use Rattle.report_lines.specs.declared.line.ReportLine.TheVariants.{Settle as SettleLine, Finish as FinishLine}
 use Rattle.report_lines.specs.declared.line.ReportLine.TheVariants.{Pull as PullLine, Plug as PlugLine, Revoked}
 use Rattle.report_lines.specs.declared.line.ReportLine.TheVariants.{Broken as BrokenLine, EndBroken, NoBroken}
-use Rattle.report_lines.specs.Words.{host_said}
+use Rattle.line_table.specs.Said.{host_said}
 use Rattle.report_lines.specs.Lines.{line_said}
 use Rattle.map_canon.specs.Declaring.{vertex_of_switch}
 use Rattle.map_canon.specs.Reading.{MapPart, map_part}

@@ -15,19 +15,20 @@ use Rattle.fabric_file.specs.Reading.{AreNamed}
 use Rattle.fab_script.specs.Ranges.{IsHost}
 use Rattle.run_defs.specs.declared.line.Line.{Line}
 use Rattle.run_defs.specs.declared.line.Line.TheVariants.{EndRoutes, Table, Broken, EndBroken}
-use Rattle.run_defs.specs.LineText.{host_name, line_text, piece_text, output_text}
+use Rattle.line_table.specs.Texts.{host_name}
+use Rattle.run_defs.specs.LineText.{line_text, piece_text, output_text}
 use Rattle.run_defs.specs.Output.{Piece, OneLine, lines}
 use Rattle.run_defs.specs.Run.{route_line, rank_line, vertex_in}
 use Rattle.report_lines.specs.declared.line.ReportLine.{ReportLine}
 use Rattle.report_lines.specs.declared.line.ReportLine.TheVariants.{Route as RouteSaid, Rank as RankSaid, EndRoutes as EndRoutesSaid, Table as TableSaid, Broken as BrokenSaid, EndBroken as EndBrokenSaid, NoBroken as NoBrokenSaid}
-use Rattle.report_lines.specs.Words.{host_said}
+use Rattle.line_table.specs.Said.{host_said}
 use Rattle.report_lines.specs.Lines.{line_said}
 use Rattle.judge_defs.specs.Form.{Reads, where_due, next_due, route_due, route_lines, rank_told, where_above, rank_due, is_rank_above, is_end_of_routes, ranks_from, rank_lines, table_due, table_lines, pair_in, pair_where, pair_due, is_end_of_broken, pairs_from, broken_lines}
 use Rattle.judge_laws.specs.Lines.{Says, IsVertexIn, are_refusal_words, table_line, end_of_routes, end_of_broken, broken_line, broken_names}
 use Rattle.judge_laws.specs.Lines.{route_line as says_route, rank_line as says_rank}
 use Rattle.judge_laws.specs.Answers.{lines_at, IsRouteIn, AreRoutesRising, IsRankIn, AreRanksRising, ArePairsRising}
 use Rattle.judge_laws.specs.Laws.{IsFirstLine}
-use Rattle.judge_laws.proofs.Names.{host-read}
+use Rattle.line_table.proofs.Filled.{host-read}
 use Rattle.judge_laws.proofs.Written.{line-first}
 
 -- the text of lines, one before others

@@ -1,8 +1,8 @@
 pub mod Numbers
 pub mod Names
-pub mod Bytes
+pub mod Places
 pub mod Reading
-pub mod Plain
+pub mod Fits
 pub mod Written
 pub mod Maps
 pub mod Blocks

@@ -11,6 +11,7 @@ use Rattle.net_defs.specs.Turn.{walk_refusal}
 use Rattle.world_defs.specs.declared.effect.Cause.{Cause}
 use Rattle.world_defs.specs.declared.effect.Cause.TheVariants.{OutOfRange}
 use Rattle.world_defs.specs.declared.effect.Said.{Said}
+use Rattle.world_defs.specs.declared.effect.Said.TheVariants.{Refused}
 use Rattle.world_defs.specs.declared.client.ClientCause.{ClientCause}
 use Rattle.world_defs.specs.declared.heard.Heard.{Heard}
 use Rattle.world_defs.specs.declared.heard.Heard.TheVariants.{Probe}
@@ -27,17 +28,20 @@ use Rattle.run_defs.specs.declared.line.ClientCall.TheVariants.{Begin, Close, Pr
 use Rattle.run_defs.specs.declared.line.StepWords.{StepWords}
 use Rattle.run_defs.specs.declared.line.StepWords.TheVariants.{Injected, Moved, Blocked, Arrived, Dropped, Repeated, Held, Replayed}
 use Rattle.run_defs.specs.declared.line.Line.{Line}
-use Rattle.run_defs.specs.declared.line.Line.TheVariants.{Walk, Map, Route, Client}
-use Rattle.run_defs.specs.LineText.{host_name, turn_text, hex_text, client_cause, said_words, heard_word, cause_word, step_words, install_cause, place_text, words_in}
+use Rattle.run_defs.specs.declared.line.Line.TheVariants.{Walk, Map, Route, Client, Step}
+use Rattle.line_table.specs.Texts.{host_name, turn_text, hex_text}
+use Rattle.run_defs.specs.LineRows.{heard_word, cause_word, install_cause, place_text}
+use Rattle.run_defs.specs.LineText.{words_in}
+use Rattle.run_defs.proofs.RowWords.{route-words, tokens-words}
 use Rattle.report_lines.specs.declared.line.MapSaid.TheVariants.{Complete as SaidComplete, Doubtful as SaidDoubtful, Shallow, Overgrown}
 use Rattle.report_lines.specs.declared.line.ReportLine.{ReportLine}
 use Rattle.report_lines.specs.declared.line.ReportLine.TheVariants.{Walk as WalkSaid, Map as MapRead, CircuitNodes as NodesSaid, Routes as RoutesSaid, NoMap as NoMapSaid, Route as RouteSaid, Installed as InstalledSaid}
 use Rattle.report_lines.specs.declared.line.ReportLine.TheVariants.{InstallRefused as InstallRefusedSaid, Closed, Provided, Accepted, Returned, CallRefused, PlanAt as PlanSaid, Step as StepSaid}
 use Rattle.report_lines.specs.declared.line.ReportLine.TheVariants.{Settle as SettleSaid, Finish as FinishSaid, Revoked as RevokedSaid, NoBroken as NoBrokenSaid}
-use Rattle.report_lines.specs.Words.{host_said, value_said}
-use Rattle.report_lines.specs.Forms.{where_so, is_only, map_at, are_counts, circuit_at, circuit_line as depth_line, are_asks, route_of, route_unless, rank_of, installed_where, table_of, pull_at, plug_at, broken_at, is_install_cause, is_heard_word, is_cause_word, is_effect}
-use Rattle.report_lines.specs.Bytes.{bytes_said}
-use Rattle.report_lines.specs.Calls.{port_at, port_said, refused_said, at_port_said, came_from, message_of, tokens_of}
+use Rattle.line_table.specs.Said.{host_said, value_said}
+use Rattle.report_lines.specs.Forms.{where_so, is_only, map_at, are_counts, circuit_at, circuit_line as depth_line, are_asks, route_of, route_unless, rank_of, installed_where, table_of, pull_at, plug_at, broken_at, is_install_cause, is_heard_word, is_cause_word}
+use Rattle.line_table.specs.Said.{bytes_said}
+use Rattle.report_lines.specs.Calls.{port_at, port_said, at_port_said, came_from, message_of, tokens_of}
 use Rattle.report_lines.specs.Lines.{line_said}
 use Rattle.judge_laws.specs.Lines.{Says, CallSays, MayRefuse, IsPlaceIn, AreWordsIn, map_said}
 use Rattle.judge_laws.specs.Lines.{begin_already, close_not_open, close_busy, close_unread, close_filling, provide_not_open, provide_no_token, provide_bad_size, send_not_open, send_no_token, send_too_long, send_no_route, send_spent, poll_not_open, tokens_not_open}
@@ -45,9 +49,12 @@ use Rattle.judge_laws.specs.Lines.{opened, closed, provided, accepted, returned,
 use Rattle.judge_laws.specs.Lines.{walk_line, map_line, busy_line, circuit_line, nodes_line, routes_line, route_line, rank_line, end_of_routes, no_map, installed_line, table_line, install_refused, call_line, tokens_line, plan_line, step_line, settle_line, finish_line}
 use Rattle.judge_laws.specs.Lines.{pull_line, plug_line, revoked_line, broken_line, broken_names, end_of_broken, no_broken}
 use Rattle.fabric_file.proofs.PlainWords.{number-any}
-use Rattle.judge_laws.proofs.Numbers.{number-other, within-read, counted-read}
-use Rattle.judge_laws.proofs.Names.{host-read, end-read, map_vertex-read, port-read, turns-read, walk-turns}
-use Rattle.judge_laws.proofs.Bytes.{bytes-read, both-read}
+use Rattle.line_table.proofs.Numbers.{number-other, within-read}
+use Rattle.judge_laws.proofs.Numbers.{counted-read}
+use Rattle.line_table.proofs.Filled.{host-read, end-read}
+use Rattle.judge_laws.proofs.Names.{map_vertex-read, port-read, turns-read, walk-turns}
+use Rattle.line_table.proofs.Bytes.{bytes-read}
+use Rattle.judge_laws.proofs.Places.{both-read}
 
 -- `asks A packets N`, and `asks A`
 counts-read : (a b : ℕ) → are_counts (codes "asks" ∷ decimal a ∷ codes "packets" ∷ decimal b ∷ []) ≡ true
@@ -68,24 +75,6 @@ heard-read _ = refl
 drop-read : (cause : Cause) → is_cause_word (cause_word cause) ≡ true
 drop-read OutOfRange = refl
 drop-read _ = refl
-
--- the refusal of a call, after the word `refused`
-refusal-read : (call : ClientCall) (cause : ClientCause) (a : PortName) → MayRefuse call cause → refused_said call a (client_cause cause) ≡ Some (CallRefused call a)
-refusal-read call cause a begin_already = refl
-refusal-read call cause a close_not_open = refl
-refusal-read call cause a (close_busy count) = λ i. if true && number-any count i then Some (CallRefused Close a) else None
-refusal-read call cause a (close_unread count) = λ i. if true && number-any count i then Some (CallRefused Close a) else None
-refusal-read call cause a (close_filling count) = λ i. if true && number-any count i then Some (CallRefused Close a) else None
-refusal-read call cause a provide_not_open = refl
-refusal-read call cause a provide_no_token = refl
-refusal-read call cause a provide_bad_size = refl
-refusal-read call cause a send_not_open = refl
-refusal-read call cause a send_no_token = refl
-refusal-read call cause a send_too_long = refl
-refusal-read call cause a send_no_route = refl
-refusal-read call cause a send_spent = refl
-refusal-read call cause a poll_not_open = refl
-refusal-read call cause a tokens_not_open = refl
 
 -- over a fabric with names of the text's form
 module _ (n : Network) (is : IsFabric n) (good : AreNamed n) where
@@ -112,15 +101,15 @@ module _ (n : Network) (is : IsFabric n) (good : AreNamed n) where
       ap (λ o. map_at o (codes "incomplete") (codes "nodes" ∷ counts)) (host-read n is good h there)
       ∙ ap (where_so (MapRead h Overgrown)) (counts-read a b)
 
-  effect-read : (words : StepWords) → AreWordsIn n words → is_effect n (step_words n words) ≡ true
-  effect-read (Injected k) there = number-any k
-  effect-read (Moved e) there = ap is_some (end-read n is good e there)
-  effect-read (Blocked e) there = ap is_some (end-read n is good e there)
-  effect-read (Arrived h heard) there = λ i. is_some (host-read n is good h there i) && heard-read heard i
-  effect-read (Dropped cause) there = λ i. true && drop-read cause i
-  effect-read (Repeated serial) there = number-any serial
-  effect-read (Held serial) there = number-any serial
-  effect-read (Replayed e) there = ap is_some (end-read n is good e there)
+  effect-read : (words : StepWords) → AreWordsIn n words → line_said n (words_in n (Step words)) ≡ Some StepSaid
+  effect-read (Injected k) there = ap (where_so StepSaid) (number-any k)
+  effect-read (Moved e) there = ap (λ o. where_so StepSaid (is_some o)) (end-read n is good e there)
+  effect-read (Blocked e) there = ap (λ o. where_so StepSaid (is_some o)) (end-read n is good e there)
+  effect-read (Arrived h heard) there = λ i. where_so StepSaid (is_some (host-read n is good h there i) && heard-read heard i)
+  effect-read (Dropped cause) there = λ i. where_so StepSaid (true && drop-read cause i)
+  effect-read (Repeated serial) there = ap (where_so StepSaid) (number-any serial)
+  effect-read (Held serial) there = ap (where_so StepSaid) (number-any serial)
+  effect-read (Replayed e) there = ap (λ o. where_so StepSaid (is_some o)) (end-read n is good e there)
   effect-read _ there = refl
 
   route-read : (from to : ℕ) (walk : List ℤ) → IsHost n from → IsHost n to → walk_refusal walk ≡ None
@@ -128,7 +117,8 @@ module _ (n : Network) (is : IsFabric n) (good : AreNamed n) where
   route-read from to walk sender receiver fine =
       let turns = walk-turns walk fine in
       let few : nat_le (length (map turn_text walk)) 64 ≡ true = ap (λ k. nat_le k 64) (length-map walk turn_text) ∙ turns.0 in
-      (λ i. if few i then route_of (host-read n is good from sender i) (host-read n is good to receiver i) (turns-read walk turns.1 i) else None)
+      ap (line_said n) (route-words n from to walk)
+      ∙ (λ i. if few i then route_of (host-read n is good from sender i) (host-read n is good to receiver i) (turns-read walk turns.1 i) else None)
       ∙ ap (λ o. route_unless o from to walk) fine
 
   -- a port of a host
@@ -139,28 +129,49 @@ module _ (n : Network) (is : IsFabric n) (good : AreNamed n) where
     at-read : port_said n (host_name n h) (decimal port) ≡ Some at
     at-read = λ i. port_at (host-read n is good h there i) (within-read 7 port low (omega arith) i)
 
+    -- a refusal
+    refused-read : {call : ClientCall} (cause : ClientCause) → MayRefuse call cause → line_said n (words_in n (Client call h port (Refused cause))) ≡ Some (CallRefused call at)
+    refused-read cause begin_already = ap (λ o. at_port_said n Begin o (codes "refused" ∷ codes "already" ∷ [])) at-read
+    refused-read cause close_not_open = ap (λ o. at_port_said n Close o (codes "refused" ∷ codes "notopen" ∷ [])) at-read
+    refused-read cause (close_busy count) =
+        ap (λ o. at_port_said n Close o (codes "refused" ∷ codes "busy" ∷ decimal count ∷ [])) at-read
+        ∙ (λ i. if true && number-any count i then Some (CallRefused Close at) else None)
+    refused-read cause (close_unread count) =
+        ap (λ o. at_port_said n Close o (codes "refused" ∷ codes "unread" ∷ decimal count ∷ [])) at-read
+        ∙ (λ i. if true && number-any count i then Some (CallRefused Close at) else None)
+    refused-read cause (close_filling count) =
+        ap (λ o. at_port_said n Close o (codes "refused" ∷ codes "filling" ∷ decimal count ∷ [])) at-read
+        ∙ (λ i. if true && number-any count i then Some (CallRefused Close at) else None)
+    refused-read cause provide_not_open = ap (λ o. at_port_said n Provide o (codes "refused" ∷ codes "notopen" ∷ [])) at-read
+    refused-read cause provide_no_token = ap (λ o. at_port_said n Provide o (codes "refused" ∷ codes "notoken" ∷ [])) at-read
+    refused-read cause provide_bad_size = ap (λ o. at_port_said n Provide o (codes "refused" ∷ codes "badsize" ∷ [])) at-read
+    refused-read cause send_not_open = ap (λ o. at_port_said n Send o (codes "refused" ∷ codes "notopen" ∷ [])) at-read
+    refused-read cause send_no_token = ap (λ o. at_port_said n Send o (codes "refused" ∷ codes "notoken" ∷ [])) at-read
+    refused-read cause send_too_long = ap (λ o. at_port_said n Send o (codes "refused" ∷ codes "toolong" ∷ [])) at-read
+    refused-read cause send_no_route = ap (λ o. at_port_said n Send o (codes "refused" ∷ codes "noroute" ∷ [])) at-read
+    refused-read cause send_spent = ap (λ o. at_port_said n Send o (codes "refused" ∷ codes "spent" ∷ [])) at-read
+    refused-read cause poll_not_open = ap (λ o. at_port_said n Poll o (codes "refused" ∷ codes "notopen" ∷ [])) at-read
+    refused-read cause tokens_not_open = ap (λ o. at_port_said n Tokens o (codes "refused" ∷ codes "notopen" ∷ [])) at-read
+
     -- what a call says of it
-    said-read : (call : ClientCall) (said : Said) (r : ReportLine) → CallSays n at call said r → at_port_said n call (Some at) (said_words n said) ≡ Some r
-    said-read call said r opened = refl
-    said-read call said r (closed count fits) = ap (option_map (Closed at)) (counted-read count fits)
-    said-read call said r (provided token fits) = ap (option_map (Provided at)) (counted-read token fits)
-    said-read call said r (accepted token fits) = ap (option_map (Accepted at)) (counted-read token fits)
-    said-read call said r (returned token fits) = ap (option_map (Returned at)) (counted-read token fits)
-    said-read call said r (received token from sport prio body fits sender one other long bytes) =
+    call-read : (call : ClientCall) (said : Said) (r : ReportLine) → CallSays n at call said r → line_said n (words_in n (Client call h port said)) ≡ Some r
+    call-read call said r opened = ap (λ o. at_port_said n Begin o (codes "done" ∷ [])) at-read
+    call-read call said r (closed count fits) =
+        ap (λ o. at_port_said n Close o (codes "done" ∷ decimal count ∷ [])) at-read ∙ ap (option_map (Closed at)) (counted-read count fits)
+    call-read call said r (provided token fits) =
+        ap (λ o. at_port_said n Provide o (codes "token" ∷ decimal token ∷ [])) at-read ∙ ap (option_map (Provided at)) (counted-read token fits)
+    call-read call said r (accepted token fits) =
+        ap (λ o. at_port_said n Send o (codes "token" ∷ decimal token ∷ [])) at-read ∙ ap (option_map (Accepted at)) (counted-read token fits)
+    call-read call said r (returned token fits) =
+        ap (λ o. at_port_said n Poll o (codes "sent" ∷ codes "token" ∷ decimal token ∷ [])) at-read ∙ ap (option_map (Returned at)) (counted-read token fits)
+    call-read call said r (received token from sport prio body fits sender one other long bytes) =
         let more = decimal sport ∷ codes "prio" ∷ decimal prio ∷ codes "len" ∷ decimal (length body) ∷ codes "bytes" ∷ hex_text body ∷ [] in
-        (λ i. option_and_then (λ k. option_and_then (λ g. came_from at k g more) (host-read n is good from sender i)) (counted-read token fits i))
+        ap (λ o. at_port_said n Poll o (codes "received" ∷ codes "token" ∷ decimal token ∷ codes "from" ∷ host_name n from ∷ more)) at-read
+        ∙ (λ i. option_and_then (λ k. option_and_then (λ g. came_from at k g more) (host-read n is good from sender i)) (counted-read token fits i))
         ∙ (λ i. option_and_then (λ s. option_and_then (λ q. option_and_then (λ len. option_map (message_of at token from s q len) (bytes_said (hex_text body))) (value_said (decimal (length body)))) (within-read 1 prio other (omega arith) i)) (within-read 7 sport one (omega arith) i))
         ∙ (λ i. option_and_then (λ len. option_map (message_of at token from sport prio len) (bytes-read body bytes i)) (counted-read (length body) long i))
-    said-read call said r nothing_came = refl
-    said-read call said r (refused kind cause may) = refusal-read call cause at may
-
-    call-read : (call : ClientCall) (said : Said) (r : ReportLine) → CallSays n at call said r → line_said n (words_in n (Client call h port said)) ≡ Some r
-    call-read Begin said r c = ap (λ o. at_port_said n Begin o (said_words n said)) at-read ∙ said-read Begin said r c
-    call-read Close said r c = ap (λ o. at_port_said n Close o (said_words n said)) at-read ∙ said-read Close said r c
-    call-read Provide said r c = ap (λ o. at_port_said n Provide o (said_words n said)) at-read ∙ said-read Provide said r c
-    call-read Send said r c = ap (λ o. at_port_said n Send o (said_words n said)) at-read ∙ said-read Send said r c
-    call-read Poll said r c = ap (λ o. at_port_said n Poll o (said_words n said)) at-read ∙ said-read Poll said r c
-    call-read Tokens said r c = ap (λ o. at_port_said n Tokens o (said_words n said)) at-read ∙ said-read Tokens said r c
+    call-read call said r nothing_came = ap (λ o. at_port_said n Poll o (codes "nothing" ∷ [])) at-read
+    call-read call said r (refused kind cause may) = refused-read cause may
 
   -- whatever a printed line says is read
   pub line-read : (l : Line) (r : ReportLine) → Says n l r → line_said n (words_in n l) ≡ Some r
@@ -193,10 +204,11 @@ module _ (n : Network) (is : IsFabric n) (good : AreNamed n) where
   line-read l r (install_refused cause) = λ i. where_so InstallRefusedSaid (true && cause-read cause i)
   line-read l r (call_line call h port said s there low c) = call-read h port there low call said r c
   line-read l r (tokens_line h port sends recvs there low first second) =
-      ap (λ o. at_port_said n Tokens o (codes "send" ∷ map place_text sends ++ codes "recv" ∷ map place_text recvs)) (at-read h port there low)
+      ap (line_said n) (tokens-words n h port sends recvs)
+      ∙ ap (λ o. at_port_said n Tokens o (codes "send" ∷ map place_text sends ++ codes "recv" ∷ map place_text recvs)) (at-read h port there low)
       ∙ ap (option_map (tokens_of (record { host = h; port = port }))) (both-read sends recvs first second)
   line-read l r (plan_line number) = λ i. where_so PlanSaid (true && number-any number i)
-  line-read l r (step_line words there) = ap (where_so StepSaid) (effect-read words there)
+  line-read l r (step_line words there) = effect-read words there
   line-read l r (settle_line rounds resets unacked) =
       λ i. where_so SettleSaid (true && number-any rounds i && (true && number-any resets i && true && number-any unacked i))
   line-read l r (finish_line injected dropped) = λ i. where_so FinishSaid (true && number-any injected i && true && number-any dropped i)

@@ -8,10 +8,11 @@ use Rattle.run_defs.specs.declared.line.Line.{Line}
 use Rattle.run_defs.specs.LineText.{words_in, line_text}
 use Rattle.report_lines.specs.declared.line.ReportLine.{ReportLine}
 use Rattle.report_lines.specs.Lines.{line_said}
-use Rattle.fabric_file.proofs.PlainLines.{ArePlain, words-spaced, left-printed}
+use Rattle.fabric_file.specs.Plain.{ArePlain}
+use Rattle.fabric_file.proofs.PlainLines.{words-spaced, left-printed}
 use Rattle.judge_laws.specs.Lines.{Says}
 use Rattle.judge_laws.specs.Laws.{IsFirstLine}
-use Rattle.judge_laws.proofs.Plain.{line-plain, line-begins}
+use Rattle.judge_laws.proofs.Fits.{line-plain, line-begins}
 use Rattle.judge_laws.proofs.Reading.{line-read}
 
 -- a line of words

@@ -35,7 +35,7 @@ use Rattle.run_defs.specs.declared.line.Line.TheVariants.{Walk, Map, MapBusy, Ci
 use Rattle.run_defs.specs.declared.line.Line.TheVariants.{Rank, EndRoutes, NoMap, Installed, Table, InstallRefused}
 use Rattle.run_defs.specs.declared.line.Line.TheVariants.{Client, Tokens, PlanAt, Step, Settle, Finish, Pull, Plug}
 use Rattle.run_defs.specs.declared.line.Line.TheVariants.{Revoked, Broken, EndBroken, NoBroken}
-use Rattle.run_defs.specs.LineText.{host_name}
+use Rattle.line_table.specs.Texts.{host_name}
 use Rattle.report_lines.specs.declared.line.MapSaid.{MapSaid}
 use Rattle.report_lines.specs.declared.line.MapSaid.TheVariants.{Complete as SaidComplete, Doubtful as SaidDoubtful}
 use Rattle.report_lines.specs.declared.line.MapSaid.TheVariants.{Shallow, Overgrown}

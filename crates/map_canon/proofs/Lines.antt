@@ -5,7 +5,8 @@ use Rattle.map_defs.specs.NetMap.{NetMap}
 use Rattle.fab_text.specs.Line.{TextLine, lines_left, says_nothing}
 use Rattle.fab_text.specs.Fault.{FirstFault, at_line, and_then}
 use Rattle.fab_text.specs.Written.{line_text}
-use Rattle.fabric_file.proofs.PlainLines.{ArePlain, words-spaced, left-printed}
+use Rattle.fabric_file.specs.Plain.{ArePlain}
+use Rattle.fabric_file.proofs.PlainLines.{words-spaced, left-printed}
 use Rattle.map_canon.specs.Declaring.{declared}
 use Rattle.map_canon.specs.Reading.{is_end, ended, map_from}
 

@@ -20,17 +20,20 @@ use Rattle.fab_text.specs.Fault.{and_then, as_kind}
 use Rattle.fab_text.specs.Written.{line_text}
 use Rattle.fabric_file.specs.Reading.{AreNamed}
 use Rattle.fabric_file.proofs.Names.{name-names, apart-before, all-nth}
-use Rattle.fabric_file.proofs.PlainLines.{is_plain}
+use Rattle.fabric_file.specs.Plain.{is_plain}
 use Rattle.fabric_file.proofs.PlainWords.{name-plain}
 use Rattle.fabric_map.specs.declared.fault.MapFault.TheVariants.{HostTaken, Full}
 use Rattle.fabric_map.specs.Growing.{IsFabricMap, empty_map, switch_refusal, cable_refusal, with_host, with_switch, with_cable, is_full}
 use Rattle.fabric_map.proofs.Listings.{few_switches, switches_of-host, switches_of-switch}
-use Rattle.run_defs.specs.LineText.{map_text, vertices_text, vertex_numbered, vertex_at, cable_words, core_word, turn_text, host_name}
+use Rattle.run_defs.specs.LineText.{map_text, vertices_text, vertex_numbered, vertex_at, cable_words, core_word}
+use Rattle.line_table.specs.Texts.{turn_text, host_name}
 use Rattle.map_canon.specs.Declaring.{declared, unless, host_placed, mark_word, says, end_word, cable_between, vertex_named}
 use Rattle.map_canon.specs.Reading.{map_from}
 use Rattle.map_canon.specs.Printing.{IsOfFabric, AreOfFabric, IsReadBack}
 use Rattle.map_canon.proofs.Lines.{printed-declares, printed-ends}
-use Rattle.map_canon.proofs.Words.{AreNumbered, IsVertexWord, vertex-word, u32-read, switch-plain, turn-read, turn-plain}
+use Rattle.map_canon.proofs.Words.{AreNumbered, IsVertexWord, vertex-word, u32-read, switch-plain}
+use Rattle.line_table.proofs.Filled.{turn-read}
+use Rattle.line_table.proofs.Plain.{turn-plain}
 use Rattle.map_canon.proofs.Free.{cabled, cable-taken}
 
 -- vertices with their marks alone

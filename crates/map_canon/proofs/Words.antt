@@ -1,46 +1,25 @@
 -- The words of a printed map, and what they are read as.
 use Rattle.std.proofs.Common.{◌≡◌, ◌≢◌, ◌<◌, ◌≤◌, ◌+◌, ◌-◌, ◌^◌, ℕ, zero, suc, List, [], ◌∷◌, ◌++◌, Bool, true, false, ◌||◌, length, nat_eq, nat_lt, Some, option_map, Ok, refl, ap, ◌∙◌, subst, arith, if◌then◌else◌}
-use Rattle.std.specs.Prelude.{ℤ, pos, negsuc, position, slice_get, codes, decimal, bytes_eq}
+use Rattle.std.specs.Prelude.{position, slice_get, codes, decimal, bytes_eq}
 use Rattle.std.specs.List.{AllByRecursion}
 use Rattle.std.proofs.lemmas.Bool.Decides.{nat_tests, Decides-eqb}
 use Rattle.net_defs.specs.declared.vertex.Vertex.TheVariants.{Host as FabricHost}
 use Rattle.net_defs.specs.Network.{Network, IsFabric, Apart}
-use Rattle.net_defs.specs.Turn.{is_turn, IsTurn}
 use Rattle.net_defs.specs.Building.{vertex_named as fabric_vertex, name_of}
 use Rattle.map_defs.specs.declared.vertex.MapVertex.{MapVertex}
 use Rattle.map_defs.specs.declared.vertex.MapVertex.TheVariants.{Host, Switch}
 use Rattle.map_defs.specs.NetMap.{NetMap, hosts_of}
 use Rattle.map_defs.specs.Routing.{is_host_named}
-use Rattle.fab_text.specs.Word.{name_test, u32_of, turn_of, with_sign, minus}
+use Rattle.fab_text.specs.Word.{name_test, u32_of}
 use Rattle.fabric_file.specs.Reading.{AreNamed}
 use Rattle.fabric_file.proofs.Cutting.{position-cons}
 use Rattle.fabric_file.proofs.Names.{name-names}
-use Rattle.fabric_file.proofs.PlainLines.{is_plain}
+use Rattle.fabric_file.specs.Plain.{is_plain}
 use Rattle.fabric_file.proofs.PlainWords.{digits-plain, name-no_sign, name-plain, number-read}
-use Rattle.run_defs.specs.LineText.{turn_text, vertex_text}
+use Rattle.line_table.specs.Texts.{vertex_text}
 use Rattle.map_canon.specs.Declaring.{is_switch_numbered, vertex_named, host_vertex, switch_vertex, vertex_test, switch_test, is_number}
 use Rattle.map_canon.specs.Printing.{IsOfFabric}
 use Rattle.map_canon.specs.Reading.{is_end}
-
--- a printed port is read as what it is
-small : (k : ℕ) → is_turn (pos k) ≡ true → k ≤ 15
-small k e = grind (arith, nat_tests)
-
-low : (k : ℕ) → is_turn (negsuc k) ≡ true → suc k ≤ 15
-low k e = grind (arith, nat_tests)
-
-fits-small : (k : ℕ) → k ≤ 15 → k < 2 ^ 64
-fits-small k h = omega arith
-
-pub turn-read : (p : ℤ) → IsTurn p → turn_of (turn_text p) ≡ Ok p
-turn-read (pos zero) t = refl
-turn-read (pos (suc k)) t = ap (with_sign pos) (number-read 15 (suc k) (small (suc k) t) (fits-small (suc k) (small (suc k) t)))
-turn-read (negsuc k) t = ap (with_sign minus) (number-read 15 (suc k) (low k t) (fits-small (suc k) (low k t)))
-
-pub turn-plain : (p : ℤ) → is_plain (turn_text p) ≡ true
-turn-plain (pos zero) = refl
-turn-plain (pos (suc k)) = digits-plain (suc k)
-turn-plain (negsuc k) = digits-plain (suc k)
 
 -- a name doesn't begin with `#`
 name-named : (f : Network) (m : NetMap) (w : List ℕ) → name_test w ≡ true → vertex_named f m w ≡ host_vertex m (fabric_vertex f w)

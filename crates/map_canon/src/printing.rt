@@ -4,8 +4,10 @@ ghost use Rattle.std.specs.Prelude.{◌≡◌, ◌++◌, flat_map, IfOk, OnOk};
 ghost use Rattle.fab_text.specs.Written.{line_text};
 ghost use Rattle.line_writing.specs.Words.{word_text};
 ghost use Rattle.net_defs.specs.Turn.{IsTurn};
-ghost use Rattle.run_defs.specs.LineText.{map_text, vertices_text, vertex_words, vertex_text, vertex_numbered};
-ghost use Rattle.run_defs.specs.LineText.{cable_words, core_word, turn_text};
+ghost use Rattle.run_defs.specs.LineText.{map_text, vertices_text, vertex_words, vertex_numbered};
+ghost use Rattle.line_table.specs.Texts.{vertex_text};
+ghost use Rattle.run_defs.specs.LineText.{cable_words, core_word};
+ghost use Rattle.line_table.specs.Texts.{turn_text};
 ghost use Rattle.map_canon.specs.Printing.{AreOfFabric, IsOfFabric, IsReadBack};
 
 use fabric_map::{FabricMap, MapCable, MapVertex};

@@ -16,7 +16,8 @@ use Rattle.fab_text.specs.Word.{name_test, is_letter, is_name_byte}
 use Rattle.fab_text.specs.Written.{spaced, line_text}
 use Rattle.fabric_file.specs.Reading.{AreNamed}
 use Rattle.fabric_file.proofs.Names.{name-names, all-nth}
-use Rattle.run_defs.specs.LineText.{host_name, turn_text, core_word, vertices_text, vertex_at, vertex_numbered, cable_words, map_text}
+use Rattle.line_table.specs.Texts.{host_name, turn_text}
+use Rattle.run_defs.specs.LineText.{core_word, vertices_text, vertex_at, vertex_numbered, cable_words, map_text}
 use Rattle.map_canon.specs.Printing.{IsOfFabric, AreOfFabric}
 use Rattle.map_canon.proofs.ReadBack.{map-numbered}
 use Rattle.map_canon.proofs.Words.{AreNumbered, number-most}

@@ -1,7 +1,8 @@
 -- One byte more of two digits.
 use Rattle.std.proofs.Common.{◌≡◌, ℕ, List, [], ◌∷◌, ◌++◌, Option, Some, None, option_and_then}
 use Rattle.std.proofs.Common.{refl, sym, ap, ◌∙◌, append_assoc}
-use Rattle.report_lines.specs.Bytes.{byte_said, pairs_said, after_bytes}
+use Rattle.line_table.specs.Said.{byte_said, pairs_said}
+use Rattle.report_lines.specs.Bytes.{after_bytes}
 
 -- a byte in front of others, after those that were read
 after-one : (done : List ℕ) (x : ℕ) (more : Option (List ℕ))

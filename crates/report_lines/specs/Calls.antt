@@ -11,8 +11,9 @@ use Rattle.report_lines.specs.declared.line.ReportLine.{ReportLine}
 use Rattle.report_lines.specs.declared.line.ReportLine.TheVariants.{Opened, Closed, Provided, Accepted, Returned}
 use Rattle.report_lines.specs.declared.line.ReportLine.TheVariants.{Received, NothingCame, CallRefused}
 use Rattle.report_lines.specs.declared.line.ReportLine.TheVariants.{Tokens as TokensShown}
-use Rattle.report_lines.specs.Words.{number_said, value_said, host_said, is_empty, is_count}
-use Rattle.report_lines.specs.Bytes.{bytes_said}
+use Rattle.line_table.specs.Said.{number_said, value_said, host_said}
+use Rattle.report_lines.specs.Words.{is_empty, is_count}
+use Rattle.line_table.specs.Said.{bytes_said}
 use Rattle.report_lines.specs.Places.{both_said}
 
 -- the port of a host, where both were said

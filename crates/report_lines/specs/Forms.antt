@@ -19,7 +19,8 @@ use Rattle.report_lines.specs.declared.line.ReportLine.TheVariants.{NoMap, Route
 use Rattle.report_lines.specs.declared.line.ReportLine.TheVariants.{InstallRefused, PlanAt, Step, Settle, Finish}
 use Rattle.report_lines.specs.declared.line.ReportLine.TheVariants.{Pull, Plug, Revoked, Broken, EndBroken}
 use Rattle.report_lines.specs.declared.line.ReportLine.TheVariants.{NoBroken}
-use Rattle.report_lines.specs.Words.{value_said, turn_said, host_said, end_said, is_end_said, vertex_said, three_of}
+use Rattle.line_table.specs.Said.{value_said, turn_said, host_said, end_said, vertex_said}
+use Rattle.report_lines.specs.Words.{is_end_said, three_of}
 use Rattle.report_lines.specs.Words.{is_empty, is_count}
 
 -- a line of which only the form is judged, where it has that form

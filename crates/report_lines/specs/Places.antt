@@ -2,7 +2,7 @@
 use Rattle.std.specs.Prelude.{ℕ, Bool, true, false, List, [], ◌∷◌, ◌++◌, nat_eq, take, drop, position, codes}
 use Rattle.std.specs.Prelude.{bytes_eq, if◌then◌else◌, Option, Some, None, option_and_then}
 use Rattle.port_ledgers.specs.declared.lane.ToldPlace.{ToldPlace}
-use Rattle.report_lines.specs.Words.{value_said}
+use Rattle.line_table.specs.Said.{value_said}
 
 -- the client has the token, or the port has it in one of its lists
 abbrev pub with_client_said : List ℕ → Option Bool

@@ -1,7 +1,7 @@
 //! The bytes of a message as a line spells them.
 
 ghost use Rattle.std.specs.Prelude.{◌≡◌, ◌<◌, true, IfOk, option_map};
-ghost use Rattle.report_lines.specs.Bytes.{is_hex_digit, hex_value, byte_said, pairs_said, bytes_said};
+ghost use Rattle.line_table.specs.Said.{is_hex_digit, hex_value, byte_said, pairs_said, bytes_said};
 
 use gm_defs::Blob;
 use std::alloc::{AllocError, Global};

@@ -2,7 +2,7 @@
 //!
 //! It judges nothing: a line that says what can't be is read like any other. `specs/Lines.antt` says which words are a
 //! line and what they say; `specs/Calls.antt` has the lines of client calls, `specs/Forms.antt` the others, and
-//! `specs/Words.antt` what single words say.
+//! `specs/Said.antt` of `line_table` what single words say.
 //!
 //! ```text
 //!   map a complete asks 31 packets 60      Map { host: 0, said: Complete }     how many asks isn't judged

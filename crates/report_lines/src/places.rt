@@ -3,7 +3,7 @@
 ghost use Rattle.std.specs.Prelude.{◌≡◌, IfOk, option_map, nat_eq, position};
 ghost use Rattle.fab_text.specs.Line.{words_of};
 ghost use Rattle.report_lines.specs.Places.{with_client_said, placed, place_said, places_said, both_said};
-ghost use Rattle.report_lines.specs.Words.{value_said};
+ghost use Rattle.line_table.specs.Said.{value_said};
 
 use crate::{PlacesSaid, value};
 use fab_text::Words;

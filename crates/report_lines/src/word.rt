@@ -6,8 +6,10 @@ ghost use Rattle.std.specs.Str.Parse.{digits_value};
 ghost use Rattle.net_defs.specs.Building.{vertex_named};
 ghost use Rattle.fab_text.specs.Line.{words_of};
 ghost use Rattle.fab_text.specs.Word.{is_digit, number_test};
-ghost use Rattle.report_lines.specs.Words.{number_said, value_said, turn_said, host_said, end_said, is_end_said};
-ghost use Rattle.report_lines.specs.Words.{vertex_said, three_of, is_empty, is_count};
+ghost use Rattle.line_table.specs.Said.{number_said, value_said, turn_said, host_said, end_said};
+ghost use Rattle.report_lines.specs.Words.{is_end_said};
+ghost use Rattle.line_table.specs.Said.{vertex_said};
+ghost use Rattle.report_lines.specs.Words.{three_of, is_empty, is_count};
 
 use fab_text::{Words, read_turn};
 use map_defs::MapVertex;

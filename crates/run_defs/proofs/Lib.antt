@@ -3,3 +3,4 @@ pub mod Doing
 pub mod Mapping
 pub mod Moments
 pub mod Reports
+pub mod RowWords

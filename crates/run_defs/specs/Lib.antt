@@ -3,6 +3,7 @@ pub mod Deed
 pub mod Duos
 pub mod Examples
 pub mod Headline
+pub mod LineRows
 pub mod LineText
 pub mod Mapped
 pub mod Outcome

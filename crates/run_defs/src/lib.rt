@@ -11,6 +11,7 @@
 //! | `Mapped` | what `map` does: the asks of a journal that grows, its map, and how far it is known to be right |
 //! | `Circuit` | what the command `circuit` prints: the map of a whole tree of circuit answers |
 //! | `Run` | what commands in order do |
+//! | `LineRows` | the row of each line in the table of `line_table`, and its values |
 //! | `LineText` | the text of each line and of a map |
 //! | `Headline` | the promise of a run |
 //! | `Summary` | the figures of a report, and the lines that show them |

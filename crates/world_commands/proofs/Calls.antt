@@ -18,7 +18,9 @@ use Rattle.world_defs.specs.World.{WorldState, fabric_of, host_count}
 use Rattle.run_defs.specs.declared.command.Command.{Command}
 use Rattle.run_defs.specs.declared.line.ClientCall.{ClientCall}
 use Rattle.run_defs.specs.declared.line.PlaceEntry.{PlaceEntry}
-use Rattle.run_defs.specs.LineText.{host_name, place_text, words_in}
+use Rattle.line_table.specs.Texts.{host_name}
+use Rattle.run_defs.specs.LineRows.{place_text}
+use Rattle.run_defs.specs.LineText.{words_in}
 use Rattle.run_defs.specs.Outcome.{calling, places, token_lines}
 use Rattle.run_defs.specs.Output.{OneLine, lines}
 use Rattle.fab_report.specs.Printed.{PrintedState, printed_of}

@@ -3,7 +3,7 @@
 ghost use Rattle.std.specs.Prelude.{◌≡◌, ◌++◌, ◌<◌, ◌≤◌, ◌∷◌, [], true, false, flat_map, IfErr, OnOk};
 ghost use Rattle.world_defs.specs.Node.{port_at};
 ghost use Rattle.world_defs.specs.World.{fabric_of, node_at};
-ghost use Rattle.run_defs.specs.LineText.{place_text};
+ghost use Rattle.run_defs.specs.LineRows.{place_text};
 ghost use Rattle.run_defs.specs.Outcome.{places};
 ghost use Rattle.run_defs.specs.Output.{OneLine};
 ghost use Rattle.run_defs.specs.declared.command.Command.TheVariants.{Tokens};

@@ -1,6 +1,6 @@
 use Rattle.std.proofs.Common.{[], ◌∷◌, ◌++◌, ◌∙◌, codes, decimal, length}
 use Rattle.std.proofs.lemmas.Result.{on_ok_weaker}
-use Rattle.run_defs.specs.LineText.{hex_text, host_name}
+use Rattle.line_table.specs.Texts.{hex_text, host_name}
 use Rattle.fab_report.specs.Words.{behind}
 use Rattle.fab_report.proofs.Writing.{followed_by}
 use Rattle.fab_report.proofs.client.append_received.Goals as goal

@@ -1,6 +1,6 @@
 use Rattle.std.proofs.Common.{◌≡◌, ◌++◌, ◌∷◌, take}
 use Rattle.std.specs.Prelude.{flat_map}
-use Rattle.run_defs.specs.LineText.{turn_text}
+use Rattle.line_table.specs.Texts.{turn_text}
 use Rattle.fab_report.proofs.mapping.append_turns.Given as goal
 
 abbrev pub invariant-loop-turn : goal.invariant-loop-turn

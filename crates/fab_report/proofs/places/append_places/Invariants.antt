@@ -1,6 +1,6 @@
 use Rattle.std.proofs.Common.{◌≡◌, ◌++◌, ◌∷◌, take}
 use Rattle.std.specs.Prelude.{flat_map}
-use Rattle.run_defs.specs.LineText.{place_text}
+use Rattle.run_defs.specs.LineRows.{place_text}
 use Rattle.fab_report.proofs.places.append_places.Given as goal
 
 abbrev pub invariant-loop-entry : goal.invariant-loop-entry

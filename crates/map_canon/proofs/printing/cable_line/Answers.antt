@@ -1,7 +1,7 @@
 use Rattle.std.proofs.Common.{[], ◌∷◌, ◌++◌, ap, codes, ◌∙◌}
 use Rattle.std.proofs.lemmas.Result.{on_ok_weaker}
 use Rattle.fab_text.specs.Written.{line_text}
-use Rattle.run_defs.specs.LineText.{turn_text}
+use Rattle.line_table.specs.Texts.{turn_text}
 use Rattle.map_canon.proofs.Printed.{port-same}
 use Rattle.map_canon.proofs.printing.cable_line.Goals as goal
 

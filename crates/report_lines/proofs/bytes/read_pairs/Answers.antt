@@ -1,5 +1,5 @@
 use Rattle.std.proofs.Common.{rules, ◌≡◌, [], ◌∷◌, ◌++◌, Some}
-use Rattle.report_lines.specs.Bytes.{byte_said, pairs_said}
+use Rattle.line_table.specs.Said.{byte_said, pairs_said}
 use Rattle.report_lines.proofs.Pairs.{pairs-kept}
 use Rattle.report_lines.proofs.bytes.read_pairs.Goals as goal
 

@@ -4,7 +4,7 @@ use Rattle.fab_text.specs.Written.{spaced}
 use Rattle.net_defs.specs.Network.{Network}
 use Rattle.world_defs.specs.Node.{port_at}
 use Rattle.world_defs.specs.World.{fabric_of, node_at}
-use Rattle.run_defs.specs.LineText.{host_name}
+use Rattle.line_table.specs.Texts.{host_name}
 use Rattle.world_commands.proofs.Calls.{places_line}
 use Rattle.world_commands.proofs.places.print_places.Goals as goal
 

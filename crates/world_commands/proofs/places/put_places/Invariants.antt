@@ -3,7 +3,7 @@ use Rattle.std.proofs.Common.{◌≡◌, ◌++◌, ◌∷◌}
 use Rattle.std.specs.Prelude.{flat_map}
 use Rattle.world_defs.specs.Node.{port_at}
 use Rattle.world_defs.specs.World.{node_at}
-use Rattle.run_defs.specs.LineText.{place_text}
+use Rattle.run_defs.specs.LineRows.{place_text}
 use Rattle.run_defs.specs.Outcome.{places}
 use Rattle.host_ports.specs.Held.{place_at}
 use Rattle.world_commands.proofs.places.put_places.Given as goal

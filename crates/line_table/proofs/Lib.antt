@@ -1,0 +1,6 @@
+mod Apart
+pub mod Bytes
+pub mod Filled
+pub mod Numbers
+pub mod Plain
+pub mod Spoken
