@@ -13,7 +13,7 @@ use Rattle.net_defs.proofs.Places.{far-there, place_at-there}
 use Rattle.net_defs.proofs.Cabling.{far_end-holds, far-back, entered-there}
 use Rattle.net_defs.specs.RouteSet.{route_below, AreRising}
 use Rattle.port_graph.specs.Routes.{AreShort}
-use Rattle.mapper_bodies.specs.Mapping.{RouteEntry}
+use Rattle.world_defs.specs.Mapping.{RouteEntry}
 use Rattle.world_defs.specs.Table.{entries_from}
 use Rattle.adopted_routes.specs.Adopting.{IsAdoptable, IsSetOfHosts}
 

@@ -8,7 +8,7 @@ use Rattle.net_defs.specs.Network.{Network, IsFabric}
 use Rattle.net_defs.specs.Route.{place}
 use Rattle.net_defs.specs.RouteSet.{HasRoute, AreRising, channels_of_all}
 use Rattle.net_defs.specs.Dependencies.{IsBefore}
-use Rattle.mapper_bodies.specs.Mapping.{RoutePart}
+use Rattle.world_defs.specs.Mapping.{RoutePart}
 use Rattle.port_graph.specs.Routes.{AreShort}
 use Rattle.world_defs.specs.declared.standing.Standing.{Standing}
 use Rattle.world_defs.specs.Table.{Adoption, last_epoch, is_kept_in, may_adopt_in, part_count, entries_from, part_for}

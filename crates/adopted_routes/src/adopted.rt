@@ -1,7 +1,7 @@
 //! A set of routes that was adopted.
 
 ghost use Rattle.std.specs.Prelude.{◌≡◌, ◌≤◌, length, true, Some, IfOk, IfSome};
-ghost use Rattle.mapper_bodies.specs.Mapping.{is_part};
+ghost use Rattle.world_defs.specs.Mapping.{is_part};
 ghost use Rattle.net_defs.specs.RouteSet.{same_routes};
 ghost use Rattle.world_defs.specs.Table.{entries_from, part_for, route_of, is_kept_in};
 ghost use Rattle.adopted_routes.specs.Adopting.{part_count_for};

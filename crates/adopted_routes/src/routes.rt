@@ -3,7 +3,7 @@
 ghost use Rattle.std.specs.Prelude.{◌≡◌, ◌+◌, true, Some, None, option_map, option_copied, IfOk, IfErr, IfSome, OnOk};
 ghost use Rattle.std.specs.Prelude.{OnErr};
 ghost use Rattle.std.specs.Prelude.{if◌then◌else◌};
-ghost use Rattle.mapper_bodies.specs.Mapping.{is_part};
+ghost use Rattle.world_defs.specs.Mapping.{is_part};
 ghost use Rattle.port_graph.specs.Routes.{HandsBack};
 ghost use Rattle.world_defs.specs.Table.{whole_table, epoch_in, keeps_in, adopted_in, may_adopt_in};
 ghost use Rattle.adopted_routes.specs.Adopting.{HasFewFor, refusal_of, adopt_refusal, part_count_for, part_to_send};

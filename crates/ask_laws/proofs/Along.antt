@@ -1,6 +1,6 @@
 -- What holds from a world to the next at each send of an ask holds along the ask.
 use Rattle.std.proofs.Common.{◌≡◌, ℕ, zero, suc, Bool, true, false, ℤ, List, [], ◌∷◌, map, Option, Some, None, is_some, refl, sym, ap, ◌∙◌, subst, if◌then◌else◌}
-use Rattle.link_defs.specs.Links.{LinkState, is_idle}
+use Rattle.world_defs.specs.Links.{LinkState, is_idle}
 use Rattle.world_defs.specs.declared.event.Event.TheVariants.{Ask, GiveUp}
 use Rattle.world_defs.specs.declared.effect.Effect.{Effect}
 use Rattle.world_defs.specs.Node.{Outgoing, has_staged, given_up}

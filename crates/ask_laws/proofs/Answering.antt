@@ -7,8 +7,8 @@ use Rattle.net_defs.specs.declared.place.Place.TheVariants.{Host as AtHostPlace,
 use Rattle.net_defs.specs.declared.place.Answer.TheVariants.{Switch as IsSwitch, Nothing as IsNothing}
 use Rattle.net_defs.specs.Network.{Network}
 use Rattle.net_defs.specs.Route.{place, answer_at, answer}
-use Rattle.cable_history.specs.History.{fabric_at}
-use Rattle.cable_history.proofs.Later.{pulled-later, later-kept}
+use Rattle.world_defs.specs.History.{fabric_at}
+use Rattle.world_defs.proofs.CablesLater.{pulled-later, later-kept}
 use Rattle.world_defs.specs.World.{WorldState, last_count}
 use Rattle.world_defs.specs.Asking.{loop_answer, is_changed, all_given_up}
 use Rattle.world_defs.specs.declared.event.Event.{Event}

@@ -21,20 +21,20 @@ use Rattle.packet_defs.specs.Packet.{head_of, packet_of, head, difference, front
 use Rattle.packet_defs.specs.Host.{has_route, decode}
 use Rattle.packet_defs.proofs.Packets.{head-push, packet_of-difference, packet_of-stripped}
 use Rattle.packet_defs.proofs.Hosts.{decode-packet_of, decode-difference}
-use Rattle.link_defs.specs.declared.moved.Why.{Why}
-use Rattle.link_defs.specs.declared.moved.Why.TheVariants.{OutOfRange, NotRoute, NoCable, NewCable}
-use Rattle.link_defs.specs.declared.moved.Course.{Course}
-use Rattle.link_defs.specs.declared.moved.Course.TheVariants.{Drops}
-use Rattle.link_defs.specs.declared.moved.Moved.{Moved}
-use Rattle.link_defs.specs.declared.moved.Moved.TheVariants.{To, AtHost, Dropped as MovedDropped, Blocked as MovedBlocked, Empty}
-use Rattle.cable_history.specs.History.{CableHistory, fabric_now}
-use Rattle.cable_history.specs.Crossed.{leaving, life_head}
-use Rattle.link_defs.specs.Advance.{course, course_into}
-use Rattle.link_defs.specs.Lone.{dropped_place, ended_place, lone_place}
-use Rattle.link_defs.proofs.HopsLeft.{course_into-enters}
-use Rattle.link_defs.proofs.LonePackets.{lone-place}
-use Rattle.mapper_bodies.specs.Mapping.{MappingBody, mapping_bytes, is_mapping}
-use Rattle.mapper_bodies.proofs.Mappings.{mapping-read}
+use Rattle.world_defs.specs.declared.moved.Why.{Why}
+use Rattle.world_defs.specs.declared.moved.Why.TheVariants.{OutOfRange, NotRoute, NoCable, NewCable}
+use Rattle.world_defs.specs.declared.moved.Course.{Course}
+use Rattle.world_defs.specs.declared.moved.Course.TheVariants.{Drops}
+use Rattle.world_defs.specs.declared.moved.Moved.{Moved}
+use Rattle.world_defs.specs.declared.moved.Moved.TheVariants.{To, AtHost, Dropped as MovedDropped, Blocked as MovedBlocked, Empty}
+use Rattle.world_defs.specs.History.{CableHistory, fabric_now}
+use Rattle.world_defs.specs.Crossed.{leaving, life_head}
+use Rattle.world_defs.specs.Advance.{course, course_into}
+use Rattle.world_defs.specs.Lone.{dropped_place, ended_place, lone_place}
+use Rattle.world_defs.proofs.HopsLeft.{course_into-enters}
+use Rattle.world_defs.proofs.LonePackets.{lone-place}
+use Rattle.world_defs.specs.Mapping.{MappingBody, mapping_bytes, is_mapping}
+use Rattle.world_defs.proofs.Mappings.{mapping-read}
 use Rattle.world_defs.specs.declared.effect.Effect.{Effect}
 use Rattle.world_defs.specs.declared.arrival.Arrival.TheVariants.{Dropped}
 use Rattle.world_defs.specs.Node.{NodeState, new_node}

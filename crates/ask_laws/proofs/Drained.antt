@@ -3,16 +3,16 @@ use Rattle.std.proofs.Common.{◌≡◌, ◌≢◌, ◌<◌, ◌+◌, ℕ, Bool,
 use Rattle.std.proofs.lemmas.List.{append-nil}
 use Rattle.std.proofs.lemmas.Bool.Decides.{Decides-eqb}
 use Rattle.packet_defs.specs.Packet.{stripped}
-use Rattle.link_defs.specs.declared.moved.Course.{Course}
-use Rattle.link_defs.specs.declared.moved.Course.TheVariants.{Arrives, Enters, Drops}
-use Rattle.link_defs.specs.declared.moved.Moved.{Moved}
-use Rattle.link_defs.specs.declared.moved.Moved.TheVariants.{AtHost}
-use Rattle.cable_history.specs.Crossed.{life_channels}
-use Rattle.link_defs.specs.Links.{Held, LinkState, packet_in, is_idle}
-use Rattle.link_defs.specs.Advance.{course, advance_of, advance}
-use Rattle.link_defs.specs.Hops.{total_hops, is_stuck, changes as moves}
-use Rattle.link_defs.proofs.HopsLeft.{still-advance}
-use Rattle.link_defs.proofs.Idling.{stuck-still}
+use Rattle.world_defs.specs.declared.moved.Course.{Course}
+use Rattle.world_defs.specs.declared.moved.Course.TheVariants.{Arrives, Enters, Drops}
+use Rattle.world_defs.specs.declared.moved.Moved.{Moved}
+use Rattle.world_defs.specs.declared.moved.Moved.TheVariants.{AtHost}
+use Rattle.world_defs.specs.Crossed.{life_channels}
+use Rattle.world_defs.specs.Links.{Held, LinkState, packet_in, is_idle}
+use Rattle.world_defs.specs.Advance.{course, advance_of, advance}
+use Rattle.world_defs.specs.Hops.{total_hops, is_stuck, changes as moves}
+use Rattle.world_defs.proofs.HopsLeft.{still-advance}
+use Rattle.world_defs.proofs.Idling.{stuck-still}
 use Rattle.world_defs.specs.declared.event.Event.TheVariants.{Advance}
 use Rattle.world_defs.specs.declared.effect.Effect.{Effect}
 use Rattle.world_defs.specs.declared.effect.Effect.TheVariants.{Idle, Arrived}

@@ -4,7 +4,7 @@ use Rattle.std.proofs.lemmas.List.{get_or-set_same}
 use Rattle.net_defs.specs.declared.place.Place.TheVariants.{Host as AtHostPlace}
 use Rattle.net_defs.specs.Network.{Network}
 use Rattle.net_defs.specs.Route.{place}
-use Rattle.mapper_bodies.specs.Mapping.MappingBody.{HostProbe, HostReply}
+use Rattle.world_defs.specs.Mapping.MappingBody.{HostProbe, HostReply}
 use Rattle.world_defs.specs.declared.effect.Effect.{Effect}
 use Rattle.world_defs.specs.declared.effect.Effect.TheVariants.{Arrived}
 use Rattle.world_defs.specs.declared.heard.Heard.TheVariants.{Probe as HeardProbe, Reply as HeardReply}

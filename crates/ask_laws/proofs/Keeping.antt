@@ -1,8 +1,8 @@
 -- What steps keep of a world, whatever is to stay of each host.
 use Rattle.std.proofs.Common.{◌≡◌, ◌≤◌, ◌+◌, ℕ, List, length, get_or, set, refl, ap, ◌∙◌, subst, sym, arith}
 use Rattle.std.proofs.Math.ListN.{length-set}
-use Rattle.cable_history.specs.Later.{OnlyPulled}
-use Rattle.cable_history.proofs.Later.{pulled-on}
+use Rattle.world_defs.specs.Later.{OnlyPulled}
+use Rattle.world_defs.proofs.CablesLater.{pulled-on}
 use Rattle.world_defs.specs.Node.{NodeState, Outgoing, new_node, after_sending}
 use Rattle.world_defs.specs.World.{WorldState, node_at, with_node}
 use Rattle.world_laws.proofs.Lists.{at-set}

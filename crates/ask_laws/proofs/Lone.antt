@@ -6,25 +6,25 @@ use Rattle.net_defs.specs.declared.vertex.Vertex.{Vertex}
 use Rattle.net_defs.specs.declared.vertex.Vertex.TheVariants.{Host, Switch}
 use Rattle.net_defs.specs.declared.vertex.End.{End}
 use Rattle.net_defs.specs.Network.{ports_of}
-use Rattle.cable_history.specs.History.{CableHistory, fabric_now}
+use Rattle.world_defs.specs.History.{CableHistory, fabric_now}
 use Rattle.packet_defs.specs.Packet.{front_turn, stripped, difference}
 use Rattle.packet_defs.proofs.Packets.{length-stripped, strip_keeps}
-use Rattle.link_defs.specs.declared.turned.Turned.{Turned}
-use Rattle.link_defs.specs.declared.turned.Turned.TheVariants.{Out, OutOfRange as TurnedTooFar, NotRoute as NoTurn}
-use Rattle.link_defs.specs.declared.moved.Course.{Course}
-use Rattle.link_defs.specs.declared.moved.Course.TheVariants.{Arrives, Enters, Drops}
-use Rattle.link_defs.specs.declared.moved.Moved.{Moved}
-use Rattle.link_defs.specs.declared.moved.Moved.TheVariants.{To, AtHost, Dropped}
-use Rattle.link_defs.specs.declared.moved.Why.{Why}
-use Rattle.link_defs.specs.declared.moved.Why.TheVariants.{NewCable}
-use Rattle.link_defs.specs.Kinds.{is_mapping}
-use Rattle.cable_history.specs.Crossed.{leaving, life_channels, life_head, is_new}
-use Rattle.cable_history.proofs.ForLife.{leaving_has_its_end}
-use Rattle.link_defs.specs.Switch.{aim}
-use Rattle.link_defs.specs.Links.{Held, LinkState, packet_in, with_packet, emptied, is_idle}
-use Rattle.link_defs.specs.Advance.{course, course_by_channel, course_out, course_into, entered, gone_on, advance_of, advance}
-use Rattle.link_defs.proofs.HopsLeft.{course_into-enters}
-use Rattle.link_defs.proofs.LonePackets.{get-empty}
+use Rattle.world_defs.specs.declared.turned.Turned.{Turned}
+use Rattle.world_defs.specs.declared.turned.Turned.TheVariants.{Out, OutOfRange as TurnedTooFar, NotRoute as NoTurn}
+use Rattle.world_defs.specs.declared.moved.Course.{Course}
+use Rattle.world_defs.specs.declared.moved.Course.TheVariants.{Arrives, Enters, Drops}
+use Rattle.world_defs.specs.declared.moved.Moved.{Moved}
+use Rattle.world_defs.specs.declared.moved.Moved.TheVariants.{To, AtHost, Dropped}
+use Rattle.world_defs.specs.declared.moved.Why.{Why}
+use Rattle.world_defs.specs.declared.moved.Why.TheVariants.{NewCable}
+use Rattle.world_defs.specs.Kinds.{is_mapping}
+use Rattle.world_defs.specs.Crossed.{leaving, life_channels, life_head, is_new}
+use Rattle.world_defs.proofs.ForLife.{leaving_has_its_end}
+use Rattle.world_defs.specs.Switch.{aim}
+use Rattle.world_defs.specs.Links.{Held, LinkState, packet_in, with_packet, emptied, is_idle}
+use Rattle.world_defs.specs.Advance.{course, course_by_channel, course_out, course_into, entered, gone_on, advance_of, advance}
+use Rattle.world_defs.proofs.HopsLeft.{course_into-enters}
+use Rattle.world_defs.proofs.LonePackets.{get-empty}
 
 -- the links without packets in channels, and with one
 abbrev pub bare : LinkState → LinkState

@@ -4,7 +4,7 @@ use Rattle.std.specs.Prelude.{ℤ, pos}
 use Rattle.net_defs.specs.declared.place.Place.TheVariants.{Host as AtHostPlace, Switch as AtSwitch}
 use Rattle.net_defs.specs.Network.{Network}
 use Rattle.net_defs.specs.Route.{place}
-use Rattle.mapper_bodies.specs.Mapping.MappingBody.{Loopback}
+use Rattle.world_defs.specs.Mapping.MappingBody.{Loopback}
 use Rattle.world_defs.specs.declared.effect.Effect.TheVariants.{Arrived}
 use Rattle.world_defs.specs.declared.heard.Heard.TheVariants.{Loop as HeardLoop}
 use Rattle.world_defs.specs.Node.{way_back}

@@ -2,7 +2,7 @@
 use Rattle.std.proofs.Common.{refl, arith}
 use Rattle.net_defs.specs.Examples.{two_hosts}
 use Rattle.net_defs.proofs.TwoHosts.{two_hosts_fabric}
-use Rattle.cable_history.proofs.First.{first_is_history}
+use Rattle.world_defs.proofs.First.{first_is_history}
 use Rattle.world_defs.specs.declared.fault.Fault.TheVariants.{Lose}
 use Rattle.world_defs.specs.Node.{to_send, packet_for, after_sending}
 use Rattle.world_defs.specs.Hearing.{hear}

@@ -7,20 +7,20 @@ use Rattle.net_defs.specs.declared.place.Place.TheVariants.{Host as AtHostPlace,
 use Rattle.net_defs.specs.declared.vertex.End.{End}
 use Rattle.net_defs.specs.Turn.{IsTurn}
 use Rattle.net_defs.specs.Route.{place, host_port}
-use Rattle.cable_history.specs.History.{CableHistory, IsHistory, fabric_now, is_in_place}
-use Rattle.cable_history.specs.Crossed.{leaving, is_standing, is_new}
-use Rattle.cable_history.specs.Later.{OnlyPulled}
-use Rattle.cable_history.proofs.ForLife.{leaving_has_its_end, standing_leaves}
-use Rattle.cable_history.proofs.Fewer.{fewer_front}
-use Rattle.cable_history.proofs.Now.{now_is_fabric}
-use Rattle.cable_history.proofs.Later.{pulled-later, later-kept, pulled-fewer, later_keeps_channels}
+use Rattle.world_defs.specs.History.{CableHistory, IsHistory, fabric_now, is_in_place}
+use Rattle.world_defs.specs.Crossed.{leaving, is_standing, is_new}
+use Rattle.world_defs.specs.Later.{OnlyPulled}
+use Rattle.world_defs.proofs.ForLife.{leaving_has_its_end, standing_leaves}
+use Rattle.world_defs.proofs.Fewer.{fewer_front}
+use Rattle.world_defs.proofs.Now.{now_is_fabric}
+use Rattle.world_defs.proofs.CablesLater.{pulled-later, later-kept, pulled-fewer, later_keeps_channels}
 use Rattle.packet_defs.specs.declared.kind.Kind.TheVariants.{Mapping}
 use Rattle.packet_defs.specs.declared.host_drop.HostDrop.TheVariants.{RouteLeft}
 use Rattle.packet_defs.specs.Packet.{packet_of, difference}
 use Rattle.packet_defs.proofs.Packets.{packet_of-difference}
-use Rattle.link_defs.specs.declared.moved.Moved.{Moved}
-use Rattle.link_defs.proofs.LonePackets.{no_channel-place}
-use Rattle.mapper_bodies.specs.Mapping.{MappingBody, mapping_bytes, is_mapping}
+use Rattle.world_defs.specs.declared.moved.Moved.{Moved}
+use Rattle.world_defs.proofs.LonePackets.{no_channel-place}
+use Rattle.world_defs.specs.Mapping.{MappingBody, mapping_bytes, is_mapping}
 use Rattle.world_defs.specs.declared.effect.Effect.{Effect}
 use Rattle.world_defs.specs.Node.{Outgoing, is_message, to_send, packet_for, after_sending}
 use Rattle.world_defs.specs.Hearing.{OfMapper, hear_body}

@@ -5,7 +5,7 @@ use Rattle.std.proofs.Math.ListN.{length-set}
 use Rattle.net_defs.specs.declared.place.Place.TheVariants.{Host as AtHostPlace}
 use Rattle.net_defs.specs.Network.{Network}
 use Rattle.net_defs.specs.Route.{place}
-use Rattle.mapper_bodies.specs.Mapping.{MappingBody}
+use Rattle.world_defs.specs.Mapping.{MappingBody}
 use Rattle.world_defs.specs.declared.event.Event.TheVariants.{Ask}
 use Rattle.world_defs.specs.Node.{NodeState, Probe, new_node}
 use Rattle.world_defs.specs.World.{WorldState, host_count, last_count, node_at, with_node}

@@ -4,11 +4,11 @@ use Rattle.std.specs.Map.{lookup}
 use Rattle.std.proofs.lemmas.Bool.Decides.{nat_tests}
 use Rattle.net_defs.specs.Route.{host_port}
 use Rattle.packet_defs.specs.Packet.{difference}
-use Rattle.link_defs.specs.declared.moved.Moved.{Moved}
-use Rattle.cable_history.specs.Crossed.{leaving, life_channels, is_standing}
-use Rattle.cable_history.proofs.Later.{pulled-later, later-kept}
-use Rattle.cable_history.proofs.ForLife.{leaving_has_its_end}
-use Rattle.link_defs.specs.Links.{Held, LinkState, packet_in, with_packet, put, is_idle}
+use Rattle.world_defs.specs.declared.moved.Moved.{Moved}
+use Rattle.world_defs.specs.Crossed.{leaving, life_channels, is_standing}
+use Rattle.world_defs.proofs.CablesLater.{pulled-later, later-kept}
+use Rattle.world_defs.proofs.ForLife.{leaving_has_its_end}
+use Rattle.world_defs.specs.Links.{Held, LinkState, packet_in, with_packet, put, is_idle}
 use Rattle.world_defs.specs.declared.effect.Effect.{Effect}
 use Rattle.world_defs.specs.declared.effect.Effect.TheVariants.{Idle, Injected}
 use Rattle.world_defs.specs.Node.{Outgoing, to_send, packet_for, after_sending}

@@ -4,13 +4,13 @@ use Rattle.std.proofs.lemmas.Bool.{cases_lt}
 use Rattle.net_defs.specs.declared.place.Place.TheVariants.{Host as AtHostPlace, Nothing as Stuck}
 use Rattle.net_defs.specs.Network.{Network}
 use Rattle.net_defs.specs.Route.{place}
-use Rattle.cable_history.specs.History.{CableHistory, fabric_now, fabric_at, stood_at, is_in_place}
-use Rattle.cable_history.specs.Later.{OnlyPulled}
-use Rattle.cable_history.proofs.Fewer.{place_over_more}
-use Rattle.cable_history.proofs.Later.{pulled-later, later-kept, later-past}
-use Rattle.cable_history.proofs.Left.{pulled-unplugged}
-use Rattle.cable_history.proofs.Now.{last_is_now}
-use Rattle.cable_history.proofs.Pulled.{unplugged_stood}
+use Rattle.world_defs.specs.History.{CableHistory, fabric_now, fabric_at, stood_at, is_in_place}
+use Rattle.world_defs.specs.Later.{OnlyPulled}
+use Rattle.world_defs.proofs.Fewer.{place_over_more}
+use Rattle.world_defs.proofs.CablesLater.{pulled-later, later-kept, later-past}
+use Rattle.world_defs.proofs.Left.{pulled-unplugged}
+use Rattle.world_defs.proofs.Now.{last_is_now}
+use Rattle.world_defs.proofs.Pulled.{unplugged_stood}
 use Rattle.world_defs.specs.World.{WorldState, fabric_of}
 use Rattle.ask_laws.specs.Premises.{HasStood}
 

@@ -9,17 +9,17 @@ use Rattle.packet_defs.specs.Packet.{difference}
 use Rattle.packet_defs.specs.Burst.{flipped, may_flip}
 use Rattle.packet_defs.proofs.Bursts.{flip-seen}
 use Rattle.net_defs.specs.declared.vertex.End.{End}
-use Rattle.cable_history.specs.declared.wire.Wire.{Wire}
-use Rattle.cable_history.specs.History.{CableHistory, is_in_place, pulled_by, with_pulled}
-use Rattle.cable_history.specs.Crossed.{leaving, life_channels, is_standing, pulled_with}
-use Rattle.cable_history.specs.Later.{OnlyPulled}
-use Rattle.cable_history.proofs.ForLife.{leaving_has_its_end}
-use Rattle.cable_history.proofs.Kept.{standing-wire}
-use Rattle.cable_history.proofs.Left.{standing-other}
-use Rattle.link_defs.proofs.Shapes.{pulled-channels}
-use Rattle.link_defs.specs.Links.{Held, LinkState, packet_in, with_packet, emptied}
-use Rattle.link_defs.specs.Fault.{repeat_of, hold_of, is_used_up, with_caught, flip_of, pull_by}
-use Rattle.link_defs.proofs.Idling.{pick}
+use Rattle.world_defs.specs.declared.wire.Wire.{Wire}
+use Rattle.world_defs.specs.History.{CableHistory, is_in_place, pulled_by, with_pulled}
+use Rattle.world_defs.specs.Crossed.{leaving, life_channels, is_standing, pulled_with}
+use Rattle.world_defs.specs.Later.{OnlyPulled}
+use Rattle.world_defs.proofs.ForLife.{leaving_has_its_end}
+use Rattle.world_defs.proofs.CablesKept.{standing-wire}
+use Rattle.world_defs.proofs.Left.{standing-other}
+use Rattle.world_defs.proofs.Shapes.{pulled-channels}
+use Rattle.world_defs.specs.Links.{Held, LinkState, packet_in, with_packet, emptied}
+use Rattle.world_defs.specs.Fault.{repeat_of, hold_of, is_used_up, with_caught, flip_of, pull_by}
+use Rattle.world_defs.proofs.Idling.{pick}
 use Rattle.world_defs.specs.declared.fault.Fault.{Fault}
 use Rattle.world_defs.specs.declared.fault.Fault.TheVariants.{Lose as LoseFault, Repeat as RepeatFault, Hold as HoldFault, Flip as FlipFault, Pull as PullFault}
 use Rattle.world_defs.specs.World.{WorldState, without_fault}

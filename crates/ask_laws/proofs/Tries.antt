@@ -9,8 +9,8 @@ use Rattle.net_defs.specs.Network.{Network, IsFabric, far}
 use Rattle.net_defs.specs.Turn.{is_turn, IsTurn}
 use Rattle.net_defs.specs.Route.{place, host_port, entered_after, IsPlaceOf}
 use Rattle.net_defs.proofs.Places.{place_at-there}
-use Rattle.mapper_bodies.specs.Mapping.{is_route, is_mapping}
-use Rattle.mapper_bodies.specs.Mapping.MappingBody.{HostProbe, HostReply, Loopback}
+use Rattle.world_defs.specs.Mapping.{is_route, is_mapping}
+use Rattle.world_defs.specs.Mapping.MappingBody.{HostProbe, HostReply, Loopback}
 use Rattle.world_defs.specs.declared.effect.Effect.{Effect}
 use Rattle.world_defs.specs.declared.effect.Effect.TheVariants.{Arrived}
 use Rattle.world_defs.specs.declared.heard.Heard.{Heard}

@@ -1,7 +1,7 @@
 -- What an ask leaves as it was.
 use Rattle.std.specs.Prelude.{◌≡◌, ℕ, ◌≤◌, ℤ, List, nat_eq, None}
 use Rattle.std.specs.Map.{lookup}
-use Rattle.cable_history.specs.Later.{OnlyPulled}
+use Rattle.world_defs.specs.Later.{OnlyPulled}
 use Rattle.world_defs.specs.Node.{NodeState}
 use Rattle.world_defs.specs.World.{WorldState, host_count, node_at}
 use Rattle.world_defs.specs.Logs.{ask}

@@ -2,8 +2,8 @@
 use Rattle.std.specs.Prelude.{◌≡◌, ℕ, ◌<◌, ◌≤◌, true, ℤ, List, length, nat_le}
 use Rattle.std.specs.List.{AllByRecursion}
 use Rattle.net_defs.specs.Turn.{IsTurn}
-use Rattle.cable_history.specs.History.{CableHistory, IsHistory}
-use Rattle.link_defs.specs.Links.{is_idle}
+use Rattle.world_defs.specs.History.{CableHistory, IsHistory}
+use Rattle.world_defs.specs.Links.{is_idle}
 use Rattle.world_defs.specs.World.{WorldState, host_count}
 use Rattle.world_defs.specs.EightBits.{HasByteFaults}
 use Rattle.world_laws.specs.Shape.{IsWorld}

@@ -1,6 +1,6 @@
 -- An ask is events in a row, and leaves idle links.
 use Rattle.std.specs.Prelude.{◌≡◌, ℕ, ◌+◌, ◌*◌, ◌≤◌, true, ℤ, List}
-use Rattle.link_defs.specs.Links.{is_idle}
+use Rattle.world_defs.specs.Links.{is_idle}
 use Rattle.world_defs.specs.declared.event.Event.{Event}
 use Rattle.world_defs.specs.declared.event.Event.TheVariants.{Ask, Inject, Advance, GiveUp}
 use Rattle.world_defs.specs.World.{WorldState}

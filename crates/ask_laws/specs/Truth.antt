@@ -3,7 +3,7 @@ use Rattle.std.specs.Prelude.{◌≡◌, ◌⊎◌, ℕ, ◌<◌, ◌≤◌, tru
 use Rattle.std.specs.Map.{lookup}
 use Rattle.net_defs.specs.declared.place.Answer.TheVariants.{Nothing}
 use Rattle.net_defs.specs.Route.{answer}
-use Rattle.cable_history.specs.History.{fabric_at}
+use Rattle.world_defs.specs.History.{fabric_at}
 use Rattle.world_defs.specs.World.{WorldState, last_count}
 use Rattle.world_defs.specs.Logs.{ask}
 use Rattle.ask_laws.specs.Premises.{CanAsk}

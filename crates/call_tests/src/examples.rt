@@ -6,7 +6,7 @@ ghost use Rattle.packet_defs.specs.declared.kind.Kind.TheVariants.{Gm};
 ghost use Rattle.packet_defs.specs.Packet.{packet_of};
 ghost use Rattle.gm_defs.specs.Body.{frame_bytes, ack_bytes};
 ghost use Rattle.gm_defs.specs.Examples.{abc};
-ghost use Rattle.mapper_bodies.specs.Mapping.{HostProbe, HostReply, Loopback, Part, PartAck, mapping_bytes};
+ghost use Rattle.world_defs.specs.Mapping.{HostProbe, HostReply, Loopback, Part, PartAck, mapping_bytes};
 
 /// A message `ABC` from port 0 of host 0 to port 1 of host 1, in a packet with one turn, and an acknowledgement of
 /// priority 1.

@@ -3,7 +3,7 @@
 ghost use Rattle.std.specs.Prelude.{◌≡◌, ◌<◌, ◌≤◌, ℕ, nat_lt, length, replicate, true, is_some, if◌then◌else◌, Some};
 ghost use Rattle.std.specs.Prelude.{None, option_map, false, IfOk, OnOk, OnErr};
 ghost use Rattle.gm_defs.specs.Body.{is_prio};
-ghost use Rattle.mapper_bodies.specs.Mapping.{is_part};
+ghost use Rattle.world_defs.specs.Mapping.{is_part};
 ghost use Rattle.world_defs.specs.Table.{active_epoch, revoked_table, has_revoked};
 ghost use Rattle.world_defs.specs.Node.{StagedProbe, StagedPart, port_count, to_send, packet_for, has_staged, given_up};
 ghost use Rattle.world_defs.specs.Node.{node_expired, unacknowledged_on, unacknowledged_to, lane_count, lane_of};

@@ -2,12 +2,12 @@
 use Rattle.std.proofs.Common.{◌≡◌, ◌<◌, ◌+◌, ℕ, Bool, true, false, cond, min, List, [], ◌∷◌, length, nat_eq, count_by, Option, Some, None, is_some, refl, sym, ap, ◌∙◌, subst, arith, if◌then◌else◌}
 use Rattle.std.specs.Map.{lookup}
 use Rattle.net_defs.specs.Route.{host_port}
-use Rattle.cable_history.specs.Crossed.{leaving}
-use Rattle.cable_history.proofs.ForLife.{leaving_has_its_end}
-use Rattle.link_defs.specs.Links.{LinkState, packet_in, put}
-use Rattle.link_defs.specs.Shape.{IsLinks}
-use Rattle.link_defs.specs.Step.{Step, Put as PutLinks, Advance as AdvanceLinks, Lose as LoseLinks, Reset as ResetLinks, Repeat as RepeatLinks, Hold as HoldLinks, Flip as FlipLinks, Replay as ReplayLinks, Pull as PullLinks, Plug as PlugLinks, Accept as AcceptLinks, stepped}
-use Rattle.link_defs.proofs.Shapes.{stepped-links}
+use Rattle.world_defs.specs.Crossed.{leaving}
+use Rattle.world_defs.proofs.ForLife.{leaving_has_its_end}
+use Rattle.world_defs.specs.Links.{LinkState, packet_in, put}
+use Rattle.world_defs.specs.Shape.{IsLinks}
+use Rattle.world_defs.specs.LinkStep.{Step, Put as PutLinks, Advance as AdvanceLinks, Lose as LoseLinks, Reset as ResetLinks, Repeat as RepeatLinks, Hold as HoldLinks, Flip as FlipLinks, Replay as ReplayLinks, Pull as PullLinks, Plug as PlugLinks, Accept as AcceptLinks, stepped}
+use Rattle.world_defs.proofs.Shapes.{stepped-links}
 use Rattle.packet_defs.specs.Packet.{stripped}
 use Rattle.world_defs.specs.declared.event.Event.{Event}
 use Rattle.world_defs.specs.declared.event.Event.TheVariants.{Inject, Advance}
@@ -28,7 +28,7 @@ use Rattle.world_defs.specs.Acts.{Act, Happens, Plans, Adopts, acted}
 use Rattle.counter_laws.specs.Counts.{effect_of, possible_on, strike_at, strike_by, strike_of, taken_at, taken_by_fault, taken_on, taken_by, taken_of, injections, copies, arrivals, drops, losses, resets}
 use Rattle.counter_laws.proofs.Present.{present, emptied-present, put-present, lose-present, repeat-present, hold-present, flip-present, replay-present, moved-present, pull-present, pull-nothing, plug-present}
 use Rattle.world_defs.specs.declared.effect.Said.TheVariants.{Done}
-use Rattle.link_defs.specs.Fault.{accept}
+use Rattle.world_defs.specs.Fault.{accept}
 
 -- the packets that came into being, and those that ended
 abbrev pub came : List Effect → List Fault → ℕ

@@ -7,21 +7,21 @@ use Rattle.std.proofs.lemmas.List.Sums.{sum_by-set, sum_by-append}
 use Rattle.net_defs.specs.declared.vertex.Vertex.TheVariants.{Host, Switch}
 use Rattle.net_defs.specs.declared.vertex.End.{End}
 use Rattle.net_defs.specs.Network.{ports_of}
-use Rattle.cable_history.specs.History.{CableHistory, fabric_now, may_plug, with_plugged}
-use Rattle.link_defs.specs.declared.turned.Turned.{Turned}
-use Rattle.link_defs.specs.declared.turned.Turned.TheVariants.{Out, OutOfRange as TurnedTooFar, NotRoute as NoTurn}
-use Rattle.link_defs.specs.declared.moved.Course.TheVariants.{Enters, Drops}
-use Rattle.link_defs.specs.declared.moved.Why.TheVariants.{NewCable}
-use Rattle.link_defs.specs.Kinds.{is_mapping}
-use Rattle.link_defs.specs.declared.replayed.Replayed.TheVariants.{Back, Busy}
-use Rattle.cable_history.specs.Crossed.{leaving, life_channels, life_head, is_new}
-use Rattle.cable_history.proofs.ForLife.{leaving_has_its_end}
-use Rattle.link_defs.specs.Links.{Held, Caught, LinkState, packet_in, with_packet, emptied, put}
-use Rattle.link_defs.specs.Switch.{aim}
-use Rattle.link_defs.specs.Advance.{course_by_channel, course_out, course_at, course_into, course}
-use Rattle.link_defs.specs.Fault.{lose, repeat_of, repeat, hold_of, hold, flip_of, flip, is_used_up, with_caught, caught_as, released, replay_of, replay, without_cable, pull_by, pull, plug}
-use Rattle.link_defs.specs.Shape.{IsLinks}
-use Rattle.link_defs.proofs.Idling.{pick}
+use Rattle.world_defs.specs.History.{CableHistory, fabric_now, may_plug, with_plugged}
+use Rattle.world_defs.specs.declared.turned.Turned.{Turned}
+use Rattle.world_defs.specs.declared.turned.Turned.TheVariants.{Out, OutOfRange as TurnedTooFar, NotRoute as NoTurn}
+use Rattle.world_defs.specs.declared.moved.Course.TheVariants.{Enters, Drops}
+use Rattle.world_defs.specs.declared.moved.Why.TheVariants.{NewCable}
+use Rattle.world_defs.specs.Kinds.{is_mapping}
+use Rattle.world_defs.specs.declared.replayed.Replayed.TheVariants.{Back, Busy}
+use Rattle.world_defs.specs.Crossed.{leaving, life_channels, life_head, is_new}
+use Rattle.world_defs.proofs.ForLife.{leaving_has_its_end}
+use Rattle.world_defs.specs.Links.{Held, Caught, LinkState, packet_in, with_packet, emptied, put}
+use Rattle.world_defs.specs.Switch.{aim}
+use Rattle.world_defs.specs.Advance.{course_by_channel, course_out, course_at, course_into, course}
+use Rattle.world_defs.specs.Fault.{lose, repeat_of, repeat, hold_of, hold, flip_of, flip, is_used_up, with_caught, caught_as, released, replay_of, replay, without_cable, pull_by, pull, plug}
+use Rattle.world_defs.specs.Shape.{IsLinks}
+use Rattle.world_defs.proofs.Idling.{pick}
 use Rattle.packet_defs.specs.Burst.{flipped, may_flip}
 use Rattle.counter_laws.specs.Counts.{with_cable, taken_at, in_channels, in_limbo}
 

@@ -1,10 +1,10 @@
 -- All acts, from a fabric's new world on.
 use Rattle.std.proofs.Common.{◌≡◌, ◌+◌, ℕ, zero, suc, Bool, cond, min, List, [], ◌∷◌, ◌++◌, replicate, count_by, is_some, Option, None, refl, ap, ◌∙◌, arith, length-append}
 use Rattle.std.proofs.lemmas.List.Sums.{sum_by-append}
-use Rattle.cable_history.specs.History.{first_history}
-use Rattle.cable_history.specs.Crossed.{life_channels}
-use Rattle.link_defs.specs.Links.{Held}
-use Rattle.link_defs.proofs.Shapes.{empty-links}
+use Rattle.world_defs.specs.History.{first_history}
+use Rattle.world_defs.specs.Crossed.{life_channels}
+use Rattle.world_defs.specs.Links.{Held}
+use Rattle.world_defs.proofs.Shapes.{empty-links}
 use Rattle.world_defs.specs.declared.effect.Effect.{Effect}
 use Rattle.world_defs.specs.declared.fault.Fault.{Fault}
 use Rattle.world_defs.specs.World.{WorldState, new_world, last_count}

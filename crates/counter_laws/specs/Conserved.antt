@@ -1,7 +1,7 @@
 -- Packets are conserved, and the counters of a world are true, after every list of acts.
 use Rattle.std.specs.Prelude.{◌≡◌, ◌+◌, ℕ, List, length, min, count_by}
 use Rattle.net_defs.specs.Network.{Network}
-use Rattle.link_defs.specs.Links.{LinkState}
+use Rattle.world_defs.specs.Links.{LinkState}
 use Rattle.world_defs.specs.declared.effect.Effect.{Effect}
 use Rattle.world_defs.specs.declared.fault.Fault.{Fault}
 use Rattle.world_defs.specs.World.{WorldState, new_world, last_count}

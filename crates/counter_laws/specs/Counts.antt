@@ -5,8 +5,8 @@ use Rattle.std.specs.Prelude.{if◌then◌else◌, Option, Some, None}
 use Rattle.std.specs.Map.{lookup}
 use Rattle.net_defs.specs.declared.vertex.End.{End}
 use Rattle.net_defs.specs.Route.{host_port}
-use Rattle.cable_history.specs.Crossed.{leaving}
-use Rattle.link_defs.specs.Links.{LinkState, packet_in}
+use Rattle.world_defs.specs.Crossed.{leaving}
+use Rattle.world_defs.specs.Links.{LinkState, packet_in}
 use Rattle.world_defs.specs.declared.event.Event.{Event}
 use Rattle.world_defs.specs.declared.event.Event.TheVariants.{Inject, Pull}
 use Rattle.world_defs.specs.declared.effect.Effect.{Effect}

@@ -3,9 +3,9 @@ use Rattle.std.proofs.Common.{◌≡◌, ℕ, true, List, Option, Some, None, is
 use Rattle.std.specs.Prelude.{ℤ}
 use Rattle.packet_defs.specs.Packet.{difference, front_turn, stripped}
 use Rattle.packet_defs.proofs.Packets.{strip_keeps}
-use Rattle.link_defs.specs.declared.turned.Turned.{Turned}
-use Rattle.link_defs.specs.declared.turned.Turned.TheVariants.{Out, OutOfRange, NotRoute}
-use Rattle.link_defs.specs.Switch.{aim, aim_of, after_aim}
+use Rattle.world_defs.specs.declared.turned.Turned.{Turned}
+use Rattle.world_defs.specs.declared.turned.Turned.TheVariants.{Out, OutOfRange, NotRoute}
+use Rattle.world_defs.specs.Switch.{aim, aim_of, after_aim}
 use Rattle.myri_packet.proofs.Built.{two_bytes}
 
 pub out-turn : (ports entry port : ℕ) (wire : List ℕ) → aim ports entry wire ≡ Out port → is_some (front_turn wire) ≡ true

@@ -1,6 +1,6 @@
 //! A switch: where it sends a packet by the route byte in front, with one contract for 4, 8 and 16 ports.
 //!
-//! It holds no packet, and knows no cable. `specs/Switch.antt` of `link_defs` says where a turn leads and what is
+//! It holds no packet, and knows no cable. `specs/Switch.antt` of `world_defs` says where a turn leads and what is
 //! left of the packet.
 //!
 //! ```text
@@ -11,9 +11,9 @@
 
 ghost use Rattle.std.specs.Prelude.{◌≡◌, ◌<◌, ◌≤◌, ℕ, Some, IsSome};
 ghost use Rattle.packet_defs.specs.Packet.{difference, front_turn};
-ghost use Rattle.link_defs.specs.Switch.{aim, aim_of, after_aim};
+ghost use Rattle.world_defs.specs.Switch.{aim, aim_of, after_aim};
 
-pub use link_defs::Turned;
+pub use world_defs::Turned;
 use myri_packet::Packet;
 use net_defs::leaving_port;
 

@@ -1,7 +1,7 @@
 -- After such a settle what clients saw, and what waits for them, is all that sends were accepted with.
 use Rattle.std.proofs.Common.{map, sym, ap, ◌∙◌}
 use Rattle.std.specs.List.{filter}
-use Rattle.cable_history.specs.History.{fabric_at}
+use Rattle.world_defs.specs.History.{fabric_at}
 use Rattle.world_defs.specs.Logs.{settle}
 use Rattle.client_laws.specs.Handed.{is_to, as_handed}
 use Rattle.client_laws.proofs.Polled.{polled-got}

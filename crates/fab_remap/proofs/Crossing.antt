@@ -8,8 +8,8 @@ use Rattle.net_defs.specs.declared.route.Route.{Route}
 use Rattle.net_defs.specs.Network.{Network}
 use Rattle.net_defs.specs.Route.{place}
 use Rattle.net_defs.specs.RouteSet.{AreRising}
-use Rattle.cable_history.specs.History.{fabric_at}
-use Rattle.cable_history.specs.Crossed.{channels_at, is_cut}
+use Rattle.world_defs.specs.History.{fabric_at}
+use Rattle.world_defs.specs.Crossed.{channels_at, is_cut}
 use Rattle.world_defs.specs.Table.{Adoption, at_in, route_of}
 use Rattle.world_defs.specs.World.{WorldState}
 use Rattle.world_defs.specs.Traffic.{routes_in, adopted_routes, is_cut_walk, is_broken}

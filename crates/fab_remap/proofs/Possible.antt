@@ -10,11 +10,11 @@ use Rattle.net_defs.specs.declared.fault.GraphFault.{GraphFault}
 use Rattle.net_defs.specs.declared.fault.GraphFault.TheVariants.{NoVertex, PortRange, PortUsed as UsedPort}
 use Rattle.net_defs.specs.Network.{Network, NamedSwitch, has_vertex, has_port, ports_of, same_end, far}
 use Rattle.net_defs.specs.Building.{cable_refusal}
-use Rattle.cable_history.specs.History.{may_plug, with_plugged, cable_limit}
-use Rattle.cable_history.specs.Crossed.{leaving, life_channels}
-use Rattle.cable_history.specs.Later.{OnlyPulled}
-use Rattle.link_defs.specs.Fault.{pull_by}
-use Rattle.link_defs.proofs.Idling.{pick}
+use Rattle.world_defs.specs.History.{may_plug, with_plugged, cable_limit}
+use Rattle.world_defs.specs.Crossed.{leaving, life_channels}
+use Rattle.world_defs.specs.Later.{OnlyPulled}
+use Rattle.world_defs.specs.Fault.{pull_by}
+use Rattle.world_defs.proofs.Idling.{pick}
 use Rattle.world_defs.specs.declared.event.Event.TheVariants.{Pull, Plug, Revoke}
 use Rattle.world_defs.specs.declared.effect.Effect.{Effect}
 use Rattle.world_defs.specs.declared.effect.Effect.TheVariants.{Said}

@@ -9,14 +9,14 @@ use Rattle.net_defs.specs.declared.place.Place.TheVariants.{Host as AtHost}
 use Rattle.net_defs.specs.Network.{Network, far}
 use Rattle.net_defs.proofs.Ends.{both}
 use Rattle.net_defs.specs.Route.{exit_at, turned, entered_after, place, place_at, host_port, next_exit}
-use Rattle.cable_history.specs.declared.wire.Wire.{Wire}
-use Rattle.cable_history.specs.History.{CableHistory, IsHistory, fabric_left, stood_at, is_in_place, is_new_wire, is_left}
-use Rattle.cable_history.specs.Crossed.{channel_by, channels_by, channels_at, leaving, life_head, is_new, is_cut}
-use Rattle.cable_history.proofs.Fewer.{none-far, some-far, channel-fewer}
-use Rattle.cable_history.proofs.Pulled.{each-fewer, left_stood}
-use Rattle.cable_history.proofs.ForLife.{leaving_over, leaving_has_its_end, passing-leaves}
-use Rattle.cable_history.proofs.Left.{left-fabric, left-passes}
-use Rattle.cable_history.proofs.Now.{now_is_fabric}
+use Rattle.world_defs.specs.declared.wire.Wire.{Wire}
+use Rattle.world_defs.specs.History.{CableHistory, IsHistory, fabric_left, stood_at, is_in_place, is_new_wire, is_left}
+use Rattle.world_defs.specs.Crossed.{channel_by, channels_by, channels_at, leaving, life_head, is_new, is_cut}
+use Rattle.world_defs.proofs.Fewer.{none-far, some-far, channel-fewer}
+use Rattle.world_defs.proofs.Pulled.{each-fewer, left_stood}
+use Rattle.world_defs.proofs.ForLife.{leaving_over, leaving_has_its_end, passing-leaves}
+use Rattle.world_defs.proofs.Left.{left-fabric, left-passes}
+use Rattle.world_defs.proofs.Now.{now_is_fabric}
 use Rattle.table_laws.proofs.Uncut.{still-leaves, no-host, stood}
 
 -- a walk that is stuck stays so

@@ -9,7 +9,7 @@ use Rattle.net_defs.specs.declared.route.Route.{Route}
 use Rattle.net_defs.specs.Building.{cable_refusal}
 use Rattle.net_defs.specs.Network.{Network, has_port, far}
 use Rattle.net_defs.specs.Route.{host_port, entered_after}
-use Rattle.cable_history.specs.History.{cable_limit, fabric_left}
+use Rattle.world_defs.specs.History.{cable_limit, fabric_left}
 use Rattle.world_defs.specs.declared.event.Event.{Event}
 use Rattle.world_defs.specs.declared.event.Event.TheVariants.{Revoke}
 use Rattle.world_defs.specs.declared.effect.Effect.{Effect}

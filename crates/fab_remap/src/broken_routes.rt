@@ -6,7 +6,7 @@
 ghost use Rattle.std.specs.Prelude.{◌≡◌, IfOk};
 ghost use Rattle.net_defs.specs.Network.{far};
 ghost use Rattle.net_defs.specs.Route.{host_port, exit_at, turned, entered_after};
-ghost use Rattle.cable_history.specs.History.{fabric_left};
+ghost use Rattle.world_defs.specs.History.{fabric_left};
 ghost use Rattle.fab_remap.specs.Remap.{broken_pairs, is_stuck, stuck_pairs};
 
 use crate::pairs::PairList;

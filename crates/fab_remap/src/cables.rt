@@ -3,8 +3,8 @@
 ghost use Rattle.std.specs.Prelude.{◌≡◌, ◌≤◌, ◌||◌, not, length, is_some, Ok, OnOk, OnErr};
 ghost use Rattle.net_defs.specs.Network.{same_end};
 ghost use Rattle.net_defs.specs.Refusal.{Refuses};
-ghost use Rattle.cable_history.specs.Crossed.{leaving};
-ghost use Rattle.cable_history.specs.Later.{OnlyPulled, IsLater};
+ghost use Rattle.world_defs.specs.Crossed.{leaving};
+ghost use Rattle.world_defs.specs.Later.{OnlyPulled, IsLater};
 ghost use Rattle.world_defs.specs.World.{host_count};
 ghost use Rattle.world_defs.specs.Step.{step};
 ghost use Rattle.world_defs.specs.declared.event.Event.TheVariants.{Pull, Plug};

@@ -1,7 +1,7 @@
 //! Events that take no memory.
 
 ghost use Rattle.std.specs.Prelude.{◌≡◌, ◌≤◌, length, false};
-ghost use Rattle.cable_history.specs.Later.{IsLater};
+ghost use Rattle.world_defs.specs.Later.{IsLater};
 ghost use Rattle.world_defs.specs.World.{host_count};
 ghost use Rattle.world_defs.specs.Step.{step};
 ghost use Rattle.fab_world.specs.Events.{IsGiven, takes_memory};

@@ -1,7 +1,7 @@
 -- What a host sends first is no message exactly where something is staged.
 use Rattle.std.proofs.Common.{◌≡◌, ℕ, Bool, true, false, true≢false, ◌||◌, ◌&&◌, not, List, [], ◌∷◌, Option, Some, None, is_some, refl, sym, ap, ◌∙◌, if◌then◌else◌}
 use Rattle.std.specs.Prelude.{option_map, option_and_then}
-use Rattle.cable_history.specs.Crossed.{is_new}
+use Rattle.world_defs.specs.Crossed.{is_new}
 use Rattle.gm_defs.specs.declared.frame.FrameHead.{FrameHead}
 use Rattle.world_defs.specs.Node.{NodeState, Staged, StagedProbe, StagedPart, StagedReply, StagedAck, Outgoing, Probe, TablePart, Reply, PartAnswer, FrameAnswer, Fragment, outgoing_staged, is_message, either, first_some, lanes_of, lane_at, lane_route, owed_on, due_frame, due_on, has_staged, to_send}
 use Rattle.world_defs.specs.World.{WorldState, node_at, keeps_out, may_send}

@@ -13,16 +13,16 @@ use Rattle.net_defs.specs.declared.fault.GraphFault.TheVariants.{NoMemory}
 use Rattle.net_defs.specs.Refusal.{Refuses}
 use Rattle.net_defs.proofs.Ends.{same_end-refl}
 use Rattle.port_graph.specs.Removing.{without_end, without_cable}
-use Rattle.cable_history.specs.declared.wire.Wire.{Wire}
-use Rattle.cable_history.specs.History.{CableHistory, fabric_now, is_in_place, may_plug, with_plugged, pulled_by, with_pulled, cable_limit}
-use Rattle.cable_history.specs.Crossed.{channel_by, leaving, pulled_with, pulled_at}
-use Rattle.cable_history.proofs.Fewer.{kept, kept_if, none-far}
-use Rattle.link_defs.specs.Links.{LinkState, packet_in}
-use Rattle.link_defs.specs.Fault.{pull}
-use Rattle.link_defs.specs.Step.{Lose as LoseLinks, Repeat as RepeatLinks, Hold as HoldLinks, Flip as FlipLinks, stepped}
-use Rattle.link_defs.proofs.Idling.{pick, pull-idle}
-use Rattle.link_defs.proofs.Later.{pull-cables}
-use Rattle.link_defs.proofs.Shapes.{stepped-cables}
+use Rattle.world_defs.specs.declared.wire.Wire.{Wire}
+use Rattle.world_defs.specs.History.{CableHistory, fabric_now, is_in_place, may_plug, with_plugged, pulled_by, with_pulled, cable_limit}
+use Rattle.world_defs.specs.Crossed.{channel_by, leaving, pulled_with, pulled_at}
+use Rattle.world_defs.proofs.Fewer.{kept, kept_if, none-far}
+use Rattle.world_defs.specs.Links.{LinkState, packet_in}
+use Rattle.world_defs.specs.Fault.{pull}
+use Rattle.world_defs.specs.LinkStep.{Lose as LoseLinks, Repeat as RepeatLinks, Hold as HoldLinks, Flip as FlipLinks, stepped}
+use Rattle.world_defs.proofs.Idling.{pick, pull-idle}
+use Rattle.world_defs.proofs.LinksLater.{pull-cables}
+use Rattle.world_defs.proofs.Shapes.{stepped-cables}
 use Rattle.world_defs.specs.Cables.{is_of_cables}
 use Rattle.world_defs.specs.declared.event.Event.{Event}
 use Rattle.world_defs.specs.declared.event.Event.TheVariants.{Ask, Part, Inject, Advance, Lose, Repeat, Hold, Flip, Replay, Reset, Expire, GiveUp, Begin, Close, Provide, Send, Poll, Revoke, Pull, Plug}

@@ -1,6 +1,6 @@
 -- A hop and a run of hops leave the cables.
 use Rattle.std.proofs.Common.{◌≡◌, ℕ, refl, sym, ap, ◌∙◌}
-use Rattle.link_defs.specs.Links.{LinkState}
+use Rattle.world_defs.specs.Links.{LinkState}
 use Rattle.link_model.specs.Hop.{IsRun}
 use Rattle.link_model.specs.declared.hop.Hop.{Hop}
 use Rattle.link_model.specs.declared.hop.Hop.TheVariants.{Moved, Blocked, Untried}

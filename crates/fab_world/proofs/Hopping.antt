@@ -1,8 +1,8 @@
 -- A hop is an advance, so it leads from one moment of a world to another; and so does a run of hops.
 use Rattle.std.proofs.Common.{◌≡◌, ℕ, [], ◌∷◌, ◌++◌, refl, sym, ap, subst, ◌∙◌}
-use Rattle.link_defs.specs.declared.moved.Moved.TheVariants.{To}
-use Rattle.link_defs.specs.Links.{LinkState}
-use Rattle.link_defs.specs.Advance.{advance}
+use Rattle.world_defs.specs.declared.moved.Moved.TheVariants.{To}
+use Rattle.world_defs.specs.Links.{LinkState}
+use Rattle.world_defs.specs.Advance.{advance}
 use Rattle.link_model.specs.Hop.{IsRun}
 use Rattle.link_model.specs.declared.hop.Hop.{Hop}
 use Rattle.link_model.specs.declared.hop.Hop.TheVariants.{Moved, Blocked, Untried}

@@ -3,8 +3,8 @@ use Rattle.std.proofs.Common.{◌≡◌, ◌<◌, ℕ, ℤ, Bool, true, false, �
 use Rattle.std.specs.Prelude.{slice_set, IfSome}
 use Rattle.std.proofs.lemmas.Option.{same_Some}
 use Rattle.net_defs.specs.declared.route.Route.{Route}
-use Rattle.link_defs.specs.Fault.{accept}
-use Rattle.mapper_bodies.specs.Mapping.{RoutePart}
+use Rattle.world_defs.specs.Fault.{accept}
+use Rattle.world_defs.specs.Mapping.{RoutePart}
 use Rattle.world_defs.specs.declared.effect.Effect.{Effect}
 use Rattle.world_defs.specs.declared.effect.Effect.TheVariants.{Idle, Expired, GaveUp, Staged as IsStaged, Said}
 use Rattle.world_defs.specs.declared.effect.Said.TheVariants.{Done}

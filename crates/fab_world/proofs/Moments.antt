@@ -4,12 +4,12 @@ use Rattle.std.specs.Prelude.{Result, Ok, Err, OnOk, OnErr, IfOk, IfSome}
 use Rattle.std.proofs.lemmas.List.{length-set}
 use Rattle.net_defs.specs.declared.route.Route.{Route}
 use Rattle.net_defs.specs.Network.{Network, IsFabric}
-use Rattle.cable_history.specs.History.{IsHistory, first_history, fabric_now}
-use Rattle.cable_history.proofs.Now.{now_is_fabric}
-use Rattle.cable_history.proofs.First.{first_is_history, first_stands}
-use Rattle.cable_history.proofs.Kept.{accept_keeps}
-use Rattle.link_defs.specs.Links.{LinkState}
-use Rattle.link_defs.specs.Fault.{accept}
+use Rattle.world_defs.specs.History.{IsHistory, first_history, fabric_now}
+use Rattle.world_defs.proofs.Now.{now_is_fabric}
+use Rattle.world_defs.proofs.First.{first_is_history, first_stands}
+use Rattle.world_defs.proofs.CablesKept.{accept_keeps}
+use Rattle.world_defs.specs.Links.{LinkState}
+use Rattle.world_defs.specs.Fault.{accept}
 use Rattle.net_defs.specs.RouteSet.{AreRising}
 use Rattle.world_defs.specs.declared.event.Event.{Event}
 use Rattle.world_defs.specs.declared.effect.Effect.{Effect}

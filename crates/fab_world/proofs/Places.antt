@@ -10,7 +10,7 @@ use Rattle.world_defs.specs.Node.{NodeState, new_node}
 use Rattle.world_defs.specs.Client.{ClientState, Called}
 use Rattle.world_defs.specs.World.{WorldState, fabric_of, host_count, node_at, client_at, with_node}
 use Rattle.world_defs.specs.Step.{of_call}
-use Rattle.cable_history.specs.History.{fabric_now}
+use Rattle.world_defs.specs.History.{fabric_now}
 use Rattle.faulty_links.specs.Held.{LinksAndPlan}
 use Rattle.client_host.specs.Held.{ServedHost, in_state, client_in, after_call}
 use Rattle.client_host.specs.Hosts.{states, clients_of, no_host, AreHosts}

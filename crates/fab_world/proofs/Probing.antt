@@ -3,7 +3,7 @@ use Rattle.std.proofs.Common.{◌≡◌, ◌<◌, ◌+◌, ℕ, ℤ, Bool, true,
 use Rattle.std.specs.Prelude.{slice_set}
 use Rattle.std.proofs.lemmas.List.{set-set, get_or-set_same}
 use Rattle.net_defs.specs.Route.{host_port}
-use Rattle.cable_history.specs.Crossed.{leaving, is_new}
+use Rattle.world_defs.specs.Crossed.{leaving, is_new}
 use Rattle.world_defs.specs.declared.effect.Effect.TheVariants.{Injected, Idle}
 use Rattle.world_defs.specs.Table.{Adoption}
 use Rattle.world_defs.specs.Node.{NodeState, Outgoing, StagedProbe, Probe, new_node, to_send, probe_packet, packet_for, after_sending}

@@ -3,7 +3,7 @@ use Rattle.std.proofs.Common.{◌≡◌, ◌≤◌, ℕ, true, Option, is_none, 
 use Rattle.std.specs.Prelude.{Result, Ok, Err, OnOk, OnErr, IfOk}
 use Rattle.net_defs.specs.declared.route.Route.{Route}
 use Rattle.net_defs.specs.Network.{Network}
-use Rattle.cable_history.specs.History.{fabric_at}
+use Rattle.world_defs.specs.History.{fabric_at}
 use Rattle.world_defs.specs.declared.event.Event.{Event}
 use Rattle.world_defs.specs.declared.event.Event.TheVariants.{Advance}
 use Rattle.world_defs.specs.declared.effect.Effect.{Effect}
@@ -15,7 +15,7 @@ use Rattle.world_defs.specs.EightBits.{IsByteFault, IsByteEvent}
 use Rattle.world_defs.specs.Acts.{Act, Happens, Plans, Adopts, acted, MayAct, IsReached}
 use Rattle.world_defs.proofs.Reaching.{reached-next}
 use Rattle.world_defs.proofs.ActsKept.{acted-kept}
-use Rattle.link_defs.specs.Links.{LinkState}
+use Rattle.world_defs.specs.Links.{LinkState}
 use Rattle.link_model.specs.Hop.{IsRun}
 use Rattle.link_model.specs.declared.hop.Hop.{Hop}
 use Rattle.link_model.specs.declared.hop.Hop.TheVariants.{Moved, Blocked, Untried}

@@ -1,6 +1,6 @@
 -- No event but a client's call is refused.
 use Rattle.std.proofs.Common.{◌≡◌, ℕ, false, refl}
-use Rattle.link_defs.specs.Step.{Step}
+use Rattle.world_defs.specs.LinkStep.{Step}
 use Rattle.world_defs.specs.declared.event.Event.{Event}
 use Rattle.world_defs.specs.declared.effect.Effect.{Effect}
 use Rattle.world_defs.specs.declared.effect.Effect.TheVariants.{Said}

@@ -1,11 +1,11 @@
 -- What an event leaves of a world, whether it happened or ran out of memory.
 use Rattle.std.proofs.Common.{◌≡◌, ◌≤◌, ◌+◌, ◌*◌, false, length, refl, sym, ap, ◌∙◌, arith}
 use Rattle.std.specs.Prelude.{Some, Result, Ok, Err, OnErr, IfOk}
-use Rattle.cable_history.specs.History.{CableHistory, fabric_now}
-use Rattle.cable_history.specs.Crossed.{life_channels}
-use Rattle.cable_history.specs.Later.{OnlyPulled, IsLater as AreLater}
-use Rattle.cable_history.proofs.Kept.{length-set-wire}
-use Rattle.cable_history.proofs.Later.{PullAt, pull_at-view, later-on, later-kept, pulled-on}
+use Rattle.world_defs.specs.History.{CableHistory, fabric_now}
+use Rattle.world_defs.specs.Crossed.{life_channels}
+use Rattle.world_defs.specs.Later.{OnlyPulled, IsLater as AreLater}
+use Rattle.world_defs.proofs.CablesKept.{length-set-wire}
+use Rattle.world_defs.proofs.CablesLater.{PullAt, pull_at-view, later-on, later-kept, pulled-on}
 use Rattle.world_defs.specs.Cables.{is_plug}
 use Rattle.world_defs.specs.declared.event.Event.{Event}
 use Rattle.world_defs.specs.declared.effect.Effect.{Effect}

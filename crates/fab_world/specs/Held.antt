@@ -1,7 +1,7 @@
 -- The world that its links and its hosts make.
 use Rattle.std.specs.Prelude.{◌≡◌, ℕ, ◌<◌, Bool, false, List, Option, IfSome}
 use Rattle.net_defs.specs.Network.{IsFabric}
-use Rattle.cable_history.specs.History.{IsHistory}
+use Rattle.world_defs.specs.History.{IsHistory}
 use Rattle.world_defs.specs.declared.event.Event.{Event}
 use Rattle.world_defs.specs.declared.event.Event.TheVariants.{Poll}
 use Rattle.world_defs.specs.declared.effect.Effect.{Effect}

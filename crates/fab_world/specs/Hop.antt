@@ -1,6 +1,6 @@
 -- A hop: an advance into the next channel, or one that is blocked; and a run of hops.
 use Rattle.std.specs.Prelude.{◌≡◌, ℕ, false}
-use Rattle.link_defs.specs.Advance.{advance}
+use Rattle.world_defs.specs.Advance.{advance}
 use Rattle.link_model.specs.Hop.{is_hop, IsRun}
 use Rattle.link_model.specs.declared.hop.Hop.{Hop}
 use Rattle.link_model.specs.declared.hop.Hop.TheVariants.{Moved, Blocked, Untried}

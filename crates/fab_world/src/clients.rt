@@ -1,7 +1,7 @@
 //! The calls of clients: the event of each, and what it is answered.
 
 ghost use Rattle.std.specs.Prelude.{◌≡◌, true, false, IfOk, OnErr};
-ghost use Rattle.cable_history.specs.Later.{IsLater};
+ghost use Rattle.world_defs.specs.Later.{IsLater};
 ghost use Rattle.world_defs.specs.World.{host_count};
 ghost use Rattle.world_defs.specs.Step.{step};
 ghost use Rattle.world_defs.specs.declared.event.Event.TheVariants.{Begin, Close, Provide, Send, Poll};

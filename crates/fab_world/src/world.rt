@@ -2,15 +2,14 @@
 
 ghost use Rattle.std.specs.Prelude.{◌≡◌, ◌≢◌, ◌≤◌, ℕ, length, true, option_map, IfOk};
 ghost use Rattle.std.specs.Prelude.{false, option_copied, OnOk, OnErr};
-ghost use Rattle.cable_history.specs.History.{fabric_at};
-ghost use Rattle.cable_history.specs.Later.{OnlyPulled, IsLater};
-ghost use Rattle.link_defs.specs.declared.moved.Moved.TheVariants.{To};
-ghost use Rattle.link_defs.specs.Advance.{advance};
+ghost use Rattle.world_defs.specs.History.{fabric_at};
+ghost use Rattle.world_defs.specs.Later.{OnlyPulled, IsLater};
+ghost use Rattle.world_defs.specs.declared.moved.Moved.TheVariants.{To};
+ghost use Rattle.world_defs.specs.Advance.{advance};
 ghost use Rattle.link_model.specs.FullSlots.{IsLone};
 ghost use Rattle.port_graph.specs.Routes.{HandsBack};
 ghost use Rattle.world_defs.specs.Traffic.{IsHonestTraffic};
-ghost use Rattle.world_defs.specs.World.{fabric_of, host_count, new_world, planned, adopted_by};
-ghost use Rattle.world_defs.specs.World.{epoch_of, standing_of};
+ghost use Rattle.world_defs.specs.World.{fabric_of, host_count, new_world, planned, adopted_by, epoch_of, standing_of};
 ghost use Rattle.world_defs.specs.declared.event.Event.TheVariants.{Ask, Inject, Advance};
 ghost use Rattle.world_defs.specs.Step.{step};
 ghost use Rattle.world_defs.specs.Acts.{IsReached};
@@ -49,7 +48,7 @@ pub struct World {
 
 impl Model for World {
     ghost use Rattle.std.specs.Prelude.{◌≡◌};
-    ghost use Rattle.cable_history.specs.History.{fabric_at};
+    ghost use Rattle.world_defs.specs.History.{fabric_at};
     ghost use Rattle.world_defs.specs.World.{WorldState, fabric_of};
     ghost use Rattle.world_defs.specs.Acts.{IsReached};
     ghost use Rattle.fab_world.specs.Held.{IsMoment};

@@ -4,10 +4,10 @@ use Rattle.std.specs.List.{AllByRecursion}
 use Rattle.net_defs.specs.declared.vertex.End.{End}
 use Rattle.net_defs.specs.Network.{Network, IsFabric}
 use Rattle.net_defs.proofs.Distinct.{all-weaker, all-push}
-use Rattle.cable_history.proofs.Now.{now_is_fabric}
+use Rattle.world_defs.proofs.Now.{now_is_fabric}
 use Rattle.map_defs.specs.NetMap.{NetMap}
 use Rattle.map_defs.specs.Sameness.{IsMapOfPart}
-use Rattle.link_defs.specs.Links.{is_idle}
+use Rattle.world_defs.specs.Links.{is_idle}
 use Rattle.journal_defs.specs.declared.entry.Entry.{Entry}
 use Rattle.circ_defs.specs.CircuitMap.{IsCircuitMap}
 use Rattle.circ_laws.proofs.Numbering.{circuit_map_is_core}

@@ -14,14 +14,14 @@ use Rattle.net_defs.specs.Network.{IsFabric, far, has_port, has_vertex, same_end
 use Rattle.net_defs.specs.Building.{cable_refusal, is_used}
 use Rattle.net_defs.proofs.Ends.{both, same_end-true, same_end-refl}
 use Rattle.net_defs.proofs.Growing.{cable-free}
-use Rattle.cable_history.specs.declared.wire.Wire.{Wire}
-use Rattle.cable_history.specs.History.{CableHistory, IsHistory, fabric_now, is_in_place, pulled_by, with_plugged, with_accepted, may_plug, dates_of, dates_in}
-use Rattle.cable_history.specs.Crossed.{channel_by, leaving, life_tail, is_standing, life_channels}
-use Rattle.cable_history.proofs.Fewer.{none-far, some-far}
-use Rattle.cable_history.proofs.ForLife.{leaving_has_its_end, standing_leaves, ends_are_for_life}
-use Rattle.cable_history.proofs.Kept.{pull_keeps, plug_keeps, accept_keeps, standing-wire}
-use Rattle.cable_history.proofs.Now.{now_is_fabric}
-use Rattle.cable_history.proofs.There.{ends_are_there, none-leaves}
+use Rattle.world_defs.specs.declared.wire.Wire.{Wire}
+use Rattle.world_defs.specs.History.{CableHistory, IsHistory, fabric_now, is_in_place, pulled_by, with_plugged, with_accepted, may_plug, dates_of, dates_in}
+use Rattle.world_defs.specs.Crossed.{channel_by, leaving, life_tail, is_standing, life_channels}
+use Rattle.world_defs.proofs.Fewer.{none-far, some-far}
+use Rattle.world_defs.proofs.ForLife.{leaving_has_its_end, standing_leaves, ends_are_for_life}
+use Rattle.world_defs.proofs.CablesKept.{pull_keeps, plug_keeps, accept_keeps, standing-wire}
+use Rattle.world_defs.proofs.Now.{now_is_fabric}
+use Rattle.world_defs.proofs.There.{ends_are_there, none-leaves}
 use Rattle.port_graph.specs.Table.{is_possible, place_of_end}
 use Rattle.port_graph.proofs.Tables.{place_of_end-same, place_of_end-lt}
 use Rattle.port_graph.proofs.Possible.{has_port-possible}

@@ -10,8 +10,8 @@ use Rattle.net_defs.specs.declared.vertex.Vertex.{Vertex}
 use Rattle.net_defs.specs.declared.vertex.Vertex.TheVariants.{Host, Switch}
 use Rattle.net_defs.specs.declared.vertex.End.{End}
 use Rattle.net_defs.specs.Network.{NamedSwitch, IsFabric, has_port}
-use Rattle.cable_history.specs.History.{CableHistory, fabric_now}
-use Rattle.cable_history.specs.Crossed.{leaving, life_head}
+use Rattle.world_defs.specs.History.{CableHistory, fabric_now}
+use Rattle.world_defs.specs.Crossed.{leaving, life_head}
 use Rattle.packet_defs.specs.RouteByte.{turn_of}
 use Rattle.port_graph.specs.Table.{is_possible}
 use Rattle.port_graph.proofs.Possible.{has_port-possible}

@@ -8,8 +8,8 @@ use Rattle.net_defs.specs.declared.vertex.End.{End}
 use Rattle.net_defs.specs.declared.vertex.Vertex.TheVariants.{Switch}
 use Rattle.net_defs.specs.Network.{NamedSwitch, IsFabric, is_port_count, ports_of}
 use Rattle.net_defs.specs.Route.{leaving_port}
-use Rattle.cable_history.specs.History.{CableHistory, fabric_now}
-use Rattle.cable_history.specs.Crossed.{leaving}
+use Rattle.world_defs.specs.History.{CableHistory, fabric_now}
+use Rattle.world_defs.specs.Crossed.{leaving}
 use Rattle.fabric_wiring.specs.Hops.{turned_from}
 use Rattle.fabric_wiring.proofs.Wirings.{leaving-outside}
 

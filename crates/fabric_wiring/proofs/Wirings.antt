@@ -13,13 +13,13 @@ use Rattle.net_defs.specs.Network.{Network, NamedSwitch, IsFabric, has_port, is_
 use Rattle.net_defs.specs.Route.{channel_out}
 use Rattle.net_defs.proofs.Ends.{same_end-true, same_end-refl}
 use Rattle.net_defs.proofs.Distinct.{all-weaker}
-use Rattle.cable_history.specs.declared.wire.Wire.{Wire}
-use Rattle.cable_history.specs.History.{CableHistory, IsHistory, first_wire, fabric_now, is_in_place}
-use Rattle.cable_history.specs.Crossed.{channel_by, life_channels, life_head, leaving}
-use Rattle.cable_history.proofs.First.{out-first, first_is_history}
-use Rattle.cable_history.proofs.ForLife.{leaving_has_its_end}
-use Rattle.cable_history.proofs.Now.{now_is_fabric}
-use Rattle.cable_history.proofs.There.{ends_are_there, none-leaves}
+use Rattle.world_defs.specs.declared.wire.Wire.{Wire}
+use Rattle.world_defs.specs.History.{CableHistory, IsHistory, first_wire, fabric_now, is_in_place}
+use Rattle.world_defs.specs.Crossed.{channel_by, life_channels, life_head, leaving}
+use Rattle.world_defs.proofs.First.{out-first, first_is_history}
+use Rattle.world_defs.proofs.ForLife.{leaving_has_its_end}
+use Rattle.world_defs.proofs.Now.{now_is_fabric}
+use Rattle.world_defs.proofs.There.{ends_are_there, none-leaves}
 use Rattle.port_graph.specs.Table.{is_possible, place_of_end}
 use Rattle.port_graph.proofs.Tables.{place_of_end-same, place_of_end-lt}
 use Rattle.port_graph.proofs.Possible.{has_port-possible, far-outside, few_cables}

@@ -5,8 +5,8 @@ use Rattle.net_defs.specs.declared.vertex.Vertex.{Vertex}
 use Rattle.net_defs.specs.declared.vertex.Vertex.TheVariants.{Host, Switch}
 use Rattle.net_defs.specs.declared.vertex.End.{End}
 use Rattle.net_defs.specs.Route.{exit_at}
-use Rattle.cable_history.specs.History.{CableHistory, fabric_now}
-use Rattle.cable_history.specs.Crossed.{leaving, life_head}
+use Rattle.world_defs.specs.History.{CableHistory, fabric_now}
+use Rattle.world_defs.specs.Crossed.{leaving, life_head}
 use Rattle.packet_defs.specs.RouteByte.{turn_of}
 
 -- the channel by which a turn leaves where an end was entered: none by a turn to no port, and at a port without cable

@@ -8,9 +8,9 @@ use Rattle.net_defs.specs.declared.vertex.End.{End}
 use Rattle.net_defs.specs.declared.vertex.Cable.{Cable}
 use Rattle.net_defs.specs.Network.{Network}
 use Rattle.net_defs.specs.Route.{channel_out}
-use Rattle.cable_history.specs.declared.wire.Wire.{Wire}
-use Rattle.cable_history.specs.History.{CableHistory, IsHistory, is_in_place}
-use Rattle.cable_history.specs.Crossed.{channel_by}
+use Rattle.world_defs.specs.declared.wire.Wire.{Wire}
+use Rattle.world_defs.specs.History.{CableHistory, IsHistory, is_in_place}
+use Rattle.world_defs.specs.Crossed.{channel_by}
 use Rattle.port_graph.specs.Table.{is_possible, place_of_end}
 use Rattle.fabric_wiring.specs.Hops.{IsHopTable, hops_from}
 use Rattle.fabric_wiring.specs.declared.wiring.Entry.{Entry}

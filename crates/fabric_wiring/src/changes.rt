@@ -4,12 +4,12 @@ ghost use Rattle.std.specs.Prelude.{◌≡◌, ◌<◌, ◌+◌, ◌/◌, true, 
 ghost use Rattle.std.specs.Prelude.{option_map};
 ghost use Rattle.std.specs.Prelude.{IfOk, OnOk, OnErr, if◌then◌else◌, is_some, ◌||◌};
 ghost use Rattle.net_defs.specs.Network.{has_port, same_end};
-ghost use Rattle.cable_history.specs.History.{fabric_now, may_plug, with_plugged, with_accepted};
-ghost use Rattle.cable_history.specs.Crossed.{leaving, pulled_at};
+ghost use Rattle.world_defs.specs.History.{fabric_now, may_plug, with_plugged, with_accepted};
+ghost use Rattle.world_defs.specs.Crossed.{leaving, pulled_at};
 
 use crate::tables::{entry_by, put_port, wire_at};
 use crate::wiring::Wiring;
-use cable_history::Wire;
+use world_defs::Wire;
 use net_defs::{Cable, End};
 use std::alloc::AllocError;
 

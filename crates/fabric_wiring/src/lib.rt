@@ -1,7 +1,7 @@
 //! The wiring of a fabric in flat tables: its cables as they come and go, the end that each channel enters, and the
 //! channel that leaves by each port.
 //!
-//! It holds no packet: what the channels hold is in `link_model`. `specs/History.antt` of `cable_history` says what
+//! It holds no packet: what the channels hold is in `link_model`. `specs/History.antt` of `world_defs` says what
 //! a change is, `specs/Tables.antt` what the tables hold, and `specs/Hops.antt` how one of them leads from channel to
 //! channel by a byte.
 //!

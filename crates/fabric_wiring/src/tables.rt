@@ -5,14 +5,14 @@ ghost use Rattle.std.specs.Prelude.{Some, None};
 ghost use Rattle.std.specs.Prelude.{slice_index_or, IfOk, IfSome};
 ghost use Rattle.std.specs.List.{AllByRecursion};
 ghost use Rattle.net_defs.specs.Network.{ends_of};
-ghost use Rattle.cable_history.specs.History.{first_wire};
+ghost use Rattle.world_defs.specs.History.{first_wire};
 ghost use Rattle.port_graph.specs.Table.{is_possible, place_of_end};
 ghost use Rattle.fabric_wiring.specs.Tables.{IsOutTable, place_if_possible, with_cable, count_at, entry_by, entries_of};
 ghost use Rattle.fabric_wiring.specs.Hops.{with_hop};
 
 use crate::hops::{ROW, hops_from, put_hop};
 use crate::wiring::Entry;
-use cable_history::Wire;
+use world_defs::Wire;
 use net_defs::{Cable, End, Vertex};
 use port_graph::Fabric;
 use std::alloc::{AllocError, Global};

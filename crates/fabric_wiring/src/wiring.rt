@@ -3,8 +3,8 @@
 ghost use Rattle.std.specs.Prelude.{◌≡◌, ◌<◌, ◌≤◌, ℕ, ◌*◌, ◌/◌, length, slice_get, true, false, not, nat_eq};
 ghost use Rattle.std.specs.Prelude.{Some, None, IfOk, IfSome};
 ghost use Rattle.net_defs.specs.Network.{has_port, is_port_count, ports_of, IsFabric};
-ghost use Rattle.cable_history.specs.History.{first_history, fabric_now, IsHistory};
-ghost use Rattle.cable_history.specs.Crossed.{leaving, life_channels, life_tail, life_head, is_new};
+ghost use Rattle.world_defs.specs.History.{first_history, fabric_now, IsHistory};
+ghost use Rattle.world_defs.specs.Crossed.{leaving, life_channels, life_tail, life_head, is_new};
 ghost use Rattle.fabric_wiring.specs.Hops.{next_channel};
 
 use crate::hops::{hop_table, last_six};
@@ -12,7 +12,7 @@ use crate::tables::{
     channel_at, entries_of, entry_at, out_table, port_count, ports_of, possible_place,
     switch_place, wire_at, wires_of,
 };
-use cable_history::Wire;
+use world_defs::Wire;
 use net_defs::{End, Vertex};
 use port_graph::Fabric;
 use std::alloc::{AllocError, Global};
@@ -50,7 +50,7 @@ pub struct Wiring {
 }
 
 impl Model for Wiring {
-    ghost use Rattle.cable_history.specs.History.{CableHistory};
+    ghost use Rattle.world_defs.specs.History.{CableHistory};
     ghost use Rattle.fabric_wiring.specs.Tables.{IsWiring, history_of};
 
     ghost Value = { CableHistory };

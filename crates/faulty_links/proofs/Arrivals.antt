@@ -8,22 +8,22 @@ use Rattle.net_defs.specs.declared.vertex.Vertex.{Vertex}
 use Rattle.net_defs.specs.declared.vertex.Vertex.TheVariants.{Host, Switch}
 use Rattle.net_defs.specs.declared.vertex.End.{End}
 use Rattle.net_defs.specs.Network.{Network, has_port, ports_of}
-use Rattle.cable_history.specs.declared.wire.Wire.{Wire}
-use Rattle.cable_history.specs.History.{CableHistory, IsHistory, fabric_now}
-use Rattle.cable_history.specs.Crossed.{leaving, life_head, is_new}
-use Rattle.cable_history.proofs.There.{ends_are_there}
-use Rattle.link_defs.specs.declared.turned.Turned.{Turned}
-use Rattle.link_defs.specs.declared.turned.Turned.TheVariants.{Out, OutOfRange as TurnedTooFar, NotRoute as NoTurn}
-use Rattle.link_defs.specs.declared.moved.Course.{Course}
-use Rattle.link_defs.specs.declared.moved.Course.TheVariants.{Arrives, Enters, Drops}
-use Rattle.link_defs.specs.declared.moved.Why.TheVariants.{NewCable}
-use Rattle.link_defs.specs.declared.moved.Moved.{Moved}
-use Rattle.link_defs.specs.declared.moved.Moved.TheVariants.{To, AtHost, Dropped, Blocked, Empty}
-use Rattle.link_defs.specs.Fault.{lose}
-use Rattle.link_defs.specs.Kinds.{is_mapping}
-use Rattle.link_defs.specs.Switch.{aim}
-use Rattle.link_defs.specs.Links.{Held, LinkState, packet_in, emptied}
-use Rattle.link_defs.specs.Advance.{course_by_channel, course_out, course_at, course_into, course, entered, gone_on, advance_of, advance}
+use Rattle.world_defs.specs.declared.wire.Wire.{Wire}
+use Rattle.world_defs.specs.History.{CableHistory, IsHistory, fabric_now}
+use Rattle.world_defs.specs.Crossed.{leaving, life_head, is_new}
+use Rattle.world_defs.proofs.There.{ends_are_there}
+use Rattle.world_defs.specs.declared.turned.Turned.{Turned}
+use Rattle.world_defs.specs.declared.turned.Turned.TheVariants.{Out, OutOfRange as TurnedTooFar, NotRoute as NoTurn}
+use Rattle.world_defs.specs.declared.moved.Course.{Course}
+use Rattle.world_defs.specs.declared.moved.Course.TheVariants.{Arrives, Enters, Drops}
+use Rattle.world_defs.specs.declared.moved.Why.TheVariants.{NewCable}
+use Rattle.world_defs.specs.declared.moved.Moved.{Moved}
+use Rattle.world_defs.specs.declared.moved.Moved.TheVariants.{To, AtHost, Dropped, Blocked, Empty}
+use Rattle.world_defs.specs.Fault.{lose}
+use Rattle.world_defs.specs.Kinds.{is_mapping}
+use Rattle.world_defs.specs.Switch.{aim}
+use Rattle.world_defs.specs.Links.{Held, LinkState, packet_in, emptied}
+use Rattle.world_defs.specs.Advance.{course_by_channel, course_out, course_at, course_into, course, entered, gone_on, advance_of, advance}
 use Rattle.faulty_links.specs.Held.{reached_by, reaching}
 
 host_below : (n : Network) (g p : ℕ) → has_port n (record { v = Host g; p = p }) ≡ true → g < length n.hosts

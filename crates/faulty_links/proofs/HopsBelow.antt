@@ -2,8 +2,8 @@
 use Rattle.std.proofs.Common.{◌≡◌, ◌<◌, ◌≤◌, ◌+◌, ℕ, zero, suc, List, [], ◌∷◌, length, Option, Some, None, refl, ◌∙◌, ap, subst, arith}
 use Rattle.std.specs.Prelude.{slice_index_or, take, option_map}
 use Rattle.std.specs.Option.{unwrap_or}
-use Rattle.link_defs.specs.Links.{Held}
-use Rattle.link_defs.specs.Hops.{hops_left, hops_of, hops_in}
+use Rattle.world_defs.specs.Links.{Held}
+use Rattle.world_defs.specs.Hops.{hops_left, hops_of, hops_in}
 use Rattle.link_model.proofs.Runs.{hops-few}
 
 -- the hops of the first so many channels

@@ -2,20 +2,20 @@
 use Rattle.std.proofs.Common.{◌≡◌, ◌+◌, ℕ, Bool, true, false, not, ◌||◌, nat_le, nat_eq, List, Option, Some, None, is_some, true≢false, refl, sym, ap, ◌∙◌, if◌then◌else◌}
 use Rattle.std.specs.Map.{lookup}
 use Rattle.net_defs.specs.declared.vertex.End.{End}
-use Rattle.link_defs.specs.declared.replayed.Replayed.{Replayed}
-use Rattle.link_defs.specs.declared.replayed.Replayed.TheVariants.{Back, Busy, Unknown}
-use Rattle.link_defs.specs.declared.moved.Moved.{Moved}
-use Rattle.link_defs.specs.declared.moved.Moved.TheVariants.{To, AtHost, Dropped as MovedDropped, Blocked as MovedBlocked, Empty}
-use Rattle.link_defs.specs.Links.{Held as HeldPacket, LinkState, packet_in, with_packet, put}
-use Rattle.link_defs.specs.Advance.{advance}
-use Rattle.link_defs.specs.Fault.{lose, reset, repeat, hold, flip, pull, plug, replay}
-use Rattle.link_defs.specs.Hops.{changes}
-use Rattle.link_defs.specs.Laws.{is_idle_replay}
-use Rattle.link_defs.proofs.Slots.{set-same}
+use Rattle.world_defs.specs.declared.replayed.Replayed.{Replayed}
+use Rattle.world_defs.specs.declared.replayed.Replayed.TheVariants.{Back, Busy, Unknown}
+use Rattle.world_defs.specs.declared.moved.Moved.{Moved}
+use Rattle.world_defs.specs.declared.moved.Moved.TheVariants.{To, AtHost, Dropped as MovedDropped, Blocked as MovedBlocked, Empty}
+use Rattle.world_defs.specs.Links.{Held as HeldPacket, LinkState, packet_in, with_packet, put}
+use Rattle.world_defs.specs.Advance.{advance}
+use Rattle.world_defs.specs.Fault.{lose, reset, repeat, hold, flip, pull, plug, replay}
+use Rattle.world_defs.specs.Hops.{changes}
+use Rattle.world_defs.specs.LinkLaws.{is_idle_replay}
+use Rattle.world_defs.proofs.Slots.{set-same}
 use Rattle.link_model.proofs.Counting.{set-set}
 use Rattle.net_defs.proofs.Growing.{no_some}
-use Rattle.link_defs.proofs.Idling.{lose-idle, repeat-idle, hold-idle, flip-idle, replay-idle, pull-idle, plug-idle}
-use Rattle.link_defs.proofs.HopsLeft.{advance-still}
+use Rattle.world_defs.proofs.Idling.{lose-idle, repeat-idle, hold-idle, flip-idle, replay-idle, pull-idle, plug-idle}
+use Rattle.world_defs.proofs.HopsLeft.{advance-still}
 use Rattle.world_defs.specs.declared.effect.Effect.{Effect}
 use Rattle.world_defs.specs.declared.effect.Effect.TheVariants.{Idle, Injected, Moved as MovedTo, Blocked, Dropped, Lost, Reset as WasReset, Flipped, Repeated, Held, Replayed as ReplayedTo, Said}
 use Rattle.world_defs.specs.declared.effect.Said.TheVariants.{Done}

@@ -2,10 +2,10 @@
 use Rattle.std.specs.Prelude.{◌≡◌, ℕ, ◌+◌, ◌||◌, Bool, true, false, not, nat_le, List, Option, Some, None, is_some}
 use Rattle.std.specs.Prelude.{if◌then◌else◌}
 use Rattle.net_defs.specs.declared.vertex.End.{End}
-use Rattle.link_defs.specs.declared.moved.Moved.{Moved}
-use Rattle.link_defs.specs.declared.moved.Moved.TheVariants.{AtHost}
-use Rattle.link_defs.specs.Links.{LinkState, packet_in, put}
-use Rattle.link_defs.specs.Advance.{advance}
+use Rattle.world_defs.specs.declared.moved.Moved.{Moved}
+use Rattle.world_defs.specs.declared.moved.Moved.TheVariants.{AtHost}
+use Rattle.world_defs.specs.Links.{LinkState, packet_in, put}
+use Rattle.world_defs.specs.Advance.{advance}
 use Rattle.world_defs.specs.declared.effect.Effect.TheVariants.{Idle, Injected, Moved as MovedTo, Blocked}
 use Rattle.world_defs.specs.declared.fault.Fault.{Fault}
 use Rattle.world_defs.specs.declared.fault.Fault.TheVariants.{Pull}

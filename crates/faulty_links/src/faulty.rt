@@ -2,11 +2,11 @@
 
 ghost use Rattle.std.specs.Prelude.{◌≡◌, ◌≢◌, ◌<◌, ◌≤◌, ◌^◌, ℕ, true, length, Some, None, IfOk, IfSome, IfNone};
 ghost use Rattle.net_defs.specs.Network.{IsFabric, has_port};
-ghost use Rattle.cable_history.specs.History.{fabric_now, IsHistory};
-ghost use Rattle.cable_history.specs.Crossed.{leaving, life_channels, life_tail, life_head};
-ghost use Rattle.link_defs.specs.Hops.{total_hops};
-ghost use Rattle.link_defs.specs.Links.{packet_in, is_idle};
-ghost use Rattle.link_defs.specs.Fault.{next_limbo};
+ghost use Rattle.world_defs.specs.History.{fabric_now, IsHistory};
+ghost use Rattle.world_defs.specs.Crossed.{leaving, life_channels, life_tail, life_head};
+ghost use Rattle.world_defs.specs.Hops.{total_hops};
+ghost use Rattle.world_defs.specs.Links.{packet_in, is_idle};
+ghost use Rattle.world_defs.specs.Fault.{next_limbo};
 ghost use Rattle.link_model.specs.FullSlots.{full_count, IsLone};
 ghost use Rattle.link_model.specs.Full.{next_full, IsNextFull};
 ghost use Rattle.world_defs.specs.World.{new_world};

@@ -1,8 +1,8 @@
 //! How far the packets on their way may still go.
 
 ghost use Rattle.std.specs.Prelude.{◌≤◌, ◌<◌, length};
-ghost use Rattle.link_defs.specs.Hops.{total_hops, hops_of};
-ghost use Rattle.link_defs.specs.Links.{packet_in};
+ghost use Rattle.world_defs.specs.Hops.{total_hops, hops_of};
+ghost use Rattle.world_defs.specs.Links.{packet_in};
 
 use link_model::Links;
 

@@ -8,8 +8,8 @@ use Rattle.std.proofs.lemmas.Bool.Decides.{nat_tests}
 use Rattle.std.proofs.lemmas.List.{length-append, length-map}
 use Rattle.net_defs.specs.Turn.{is_turn}
 use Rattle.packet_defs.specs.RouteByte.{route_byte}
-use Rattle.mapper_bodies.specs.Mapping.{RouteEntry, RoutePart, mapping_bytes, is_part, is_route, are_entries, entry_bytes, route_bytes}
-use Rattle.mapper_bodies.specs.Mapping.MappingBody.{Part}
+use Rattle.world_defs.specs.Mapping.{RouteEntry, RoutePart, mapping_bytes, is_part, is_route, are_entries, entry_bytes, route_bytes}
+use Rattle.world_defs.specs.Mapping.MappingBody.{Part}
 
 -- the bytes of a route
 pub route-short : (walk : List ℤ) → length walk ≤ 64 → length (route_bytes walk) ≤ 65

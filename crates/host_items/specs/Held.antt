@@ -1,7 +1,7 @@
 -- What a host has staged to send besides messages, within a host of the world.
 use Rattle.std.specs.Prelude.{◌≡◌, ◌≤◌, ℕ, ℤ, Bool, true, ◌||◌, List, length, is_some, if◌then◌else◌, Option, Some}
 use Rattle.std.specs.Prelude.{None, option_map}
-use Rattle.mapper_bodies.specs.Mapping.{is_part}
+use Rattle.world_defs.specs.Mapping.{is_part}
 use Rattle.world_defs.specs.Node.{Staged, StagedProbe, StagedPart, StagedReply, StagedAck, NodeState, Outgoing, Reply}
 use Rattle.world_defs.specs.Node.{PartAnswer, outgoing_staged, either, packet_for}
 use Rattle.host_items.specs.declared.staged.StagedItem.{StagedItem}

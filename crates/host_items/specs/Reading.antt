@@ -1,7 +1,7 @@
 -- The bodies of the mapper's protocol, as a host reads them.
 use Rattle.std.specs.Prelude.{Bool, true, false}
-use Rattle.mapper_bodies.specs.Mapping.{MappingBody}
-use Rattle.mapper_bodies.specs.Mapping.MappingBody.{Part}
+use Rattle.world_defs.specs.Mapping.{MappingBody}
+use Rattle.world_defs.specs.Mapping.MappingBody.{Part}
 use Rattle.probe.specs.Body.{said}
 use Rattle.route_parts.specs.Reading.{ack_body}
 use Rattle.world_defs.specs.declared.heard.Heard.{Heard}

@@ -2,7 +2,7 @@
 
 ghost use Rattle.std.specs.Prelude.{ℕ, ◌≡◌, IfOk};
 ghost use Rattle.packet_defs.specs.Packet.{packet_of};
-ghost use Rattle.mapper_bodies.specs.Mapping.{mapping_bytes};
+ghost use Rattle.world_defs.specs.Mapping.{mapping_bytes};
 ghost use Rattle.route_parts.specs.Reading.{ack_body};
 ghost use Rattle.world_defs.specs.Node.{Outgoing, packet_for};
 ghost use Rattle.host_items.specs.Held.{reply_of, answer_of};

@@ -1,7 +1,7 @@
 //! The bodies of the mapper's protocol.
 
 ghost use Rattle.std.specs.Prelude.{◌≡◌, None, option_map, IfOk};
-ghost use Rattle.mapper_bodies.specs.Mapping.{decode_mapping};
+ghost use Rattle.world_defs.specs.Mapping.{decode_mapping};
 ghost use Rattle.probe.specs.Body.{probe_in};
 ghost use Rattle.route_parts.specs.Reading.{part_in};
 ghost use Rattle.host_items.specs.Reading.{said_of};

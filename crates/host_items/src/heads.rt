@@ -4,7 +4,7 @@ ghost use Rattle.std.specs.Prelude.{◌≡◌, ◌<◌, ◌≤◌, ◌+◌, ◌*
 ghost use Rattle.net_defs.specs.Turn.{IsTurn};
 ghost use Rattle.packet_defs.specs.RouteByte.{route_byte};
 ghost use Rattle.packet_defs.specs.Packet.{head_of};
-ghost use Rattle.mapper_bodies.specs.Mapping.{MappingBody, mapping_bytes};
+ghost use Rattle.world_defs.specs.Mapping.{MappingBody, mapping_bytes};
 ghost use Rattle.world_defs.specs.Node.{way_back};
 
 use crate::route::opposite_at;

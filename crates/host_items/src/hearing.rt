@@ -2,7 +2,7 @@
 
 ghost use Rattle.std.specs.Prelude.{◌≡◌, ℕ};
 ghost use Rattle.std.specs.List.{list_all};
-ghost use Rattle.mapper_bodies.specs.Mapping.{MappingBody};
+ghost use Rattle.world_defs.specs.Mapping.{MappingBody};
 ghost use Rattle.world_defs.specs.Node.{NodeState};
 ghost use Rattle.world_defs.specs.Hearing.{OfMapper, is_host, is_part_for, hear_body};
 ghost use Rattle.probe.specs.Body.{said};

@@ -1,7 +1,7 @@
 //! The three items.
 
 ghost use Rattle.std.specs.Prelude.{◌≡◌, ◌≤◌, length, true, is_some, None, Some, IfOk};
-ghost use Rattle.mapper_bodies.specs.Mapping.{is_part};
+ghost use Rattle.world_defs.specs.Mapping.{is_part};
 ghost use Rattle.world_defs.specs.Node.{StagedProbe, StagedPart};
 ghost use Rattle.host_items.specs.Held.{no_items, is_staged, packet_of_first, packet_of_answer, without_first};
 ghost use Rattle.host_items.specs.Held.{first_of, with_staged, with_reply, with_answer};

@@ -2,7 +2,7 @@
 
 ghost use Rattle.std.specs.Prelude.{◌≡◌, ◌≤◌, length, IfOk};
 ghost use Rattle.packet_defs.specs.Packet.{packet_of};
-ghost use Rattle.mapper_bodies.specs.Mapping.{mapping_bytes};
+ghost use Rattle.world_defs.specs.Mapping.{mapping_bytes};
 ghost use Rattle.probe.specs.Body.{said};
 
 use myri_packet::{Kind, Packet, packet_front, seal};

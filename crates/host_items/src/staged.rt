@@ -2,7 +2,7 @@
 
 ghost use Rattle.std.specs.Prelude.{◌≡◌, ◌≤◌, length, true, false, IfOk};
 ghost use Rattle.packet_defs.specs.Packet.{packet_of};
-ghost use Rattle.mapper_bodies.specs.Mapping.{MappingBody, mapping_bytes, is_part};
+ghost use Rattle.world_defs.specs.Mapping.{MappingBody, mapping_bytes, is_part};
 ghost use Rattle.world_defs.specs.Node.{outgoing_staged, probe_packet, packet_for};
 ghost use Rattle.host_items.specs.Held.{staged_of, IsSendable};
 

@@ -3,10 +3,10 @@ use Rattle.std.proofs.Common.{◌≡◌, ◌≤◌, ◌+◌, ℕ, Bool, true, fa
 use Rattle.std.specs.Map.{lookup}
 use Rattle.std.specs.Ordering.{match_ordering, nat_cmp}
 use Rattle.net_defs.specs.Network.{Network}
-use Rattle.cable_history.specs.History.{first_history}
-use Rattle.cable_history.specs.Crossed.{life_channels}
-use Rattle.link_defs.specs.Links.{LinkState, emptied, put}
-use Rattle.link_defs.specs.Step.{Put as PutLinks, Advance as AdvanceLinks, Lose as LoseLinks, Reset as ResetLinks, Repeat as RepeatLinks, Hold as HoldLinks, Flip as FlipLinks, Replay as ReplayLinks, Pull as PullLinks, Plug as PlugLinks, stepped}
+use Rattle.world_defs.specs.History.{first_history}
+use Rattle.world_defs.specs.Crossed.{life_channels}
+use Rattle.world_defs.specs.Links.{LinkState, emptied, put}
+use Rattle.world_defs.specs.LinkStep.{Put as PutLinks, Advance as AdvanceLinks, Lose as LoseLinks, Reset as ResetLinks, Repeat as RepeatLinks, Hold as HoldLinks, Flip as FlipLinks, Replay as ReplayLinks, Pull as PullLinks, Plug as PlugLinks, stepped}
 use Rattle.world_defs.specs.declared.event.Event.{Event}
 use Rattle.world_defs.specs.declared.effect.Effect.{Effect}
 use Rattle.world_defs.specs.declared.fault.Fault.{Fault}
@@ -29,7 +29,7 @@ use Rattle.injection_bounds.proofs.Lanes.{expired-credit}
 use Rattle.injection_bounds.proofs.Hosts.{hear-credit, out-paid}
 use Rattle.injection_bounds.proofs.Calls.{begun-free, closed-free, provided_by-free, polled_by-free, sent_by-bought}
 use Rattle.injection_bounds.proofs.Links.{step_cost, emptied-credit, stepped-credit}
-use Rattle.link_defs.specs.Fault.{accept}
+use Rattle.world_defs.specs.Fault.{accept}
 
 -- the credit of all hosts
 abbrev hosts_credit : List NodeState → ℕ

@@ -12,7 +12,7 @@ use Rattle.gm_defs.specs.Body.{part_in}
 use Rattle.gm_defs.specs.Fragment.{frame_of}
 use Rattle.gm_defs.specs.Connection.{due}
 use Rattle.gm_defs.proofs.Choices.{then-some}
-use Rattle.mapper_bodies.specs.Mapping.MappingBody.{HostProbe, Part}
+use Rattle.world_defs.specs.Mapping.MappingBody.{HostProbe, Part}
 use Rattle.world_defs.specs.declared.arrival.Arrival.{Arrival}
 use Rattle.world_defs.specs.Table.{applied}
 use Rattle.world_defs.specs.Lane.{LaneState, lane_acknowledged, tickets_finished, lane_after, lane_answered, lane_sent_one}

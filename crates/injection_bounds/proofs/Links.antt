@@ -3,19 +3,19 @@ use Rattle.std.proofs.Common.{◌≡◌, ◌≤◌, ◌+◌, ◌*◌, ◌/◌, �
 use Rattle.packet_defs.specs.Host.{body_of}
 use Rattle.packet_defs.specs.Packet.{front_turn, stripped}
 use Rattle.packet_defs.specs.Burst.{flipped, may_flip}
-use Rattle.link_defs.specs.declared.moved.Course.{Course}
-use Rattle.link_defs.specs.declared.moved.Course.TheVariants.{Arrives, Enters, Drops}
-use Rattle.link_defs.specs.declared.replayed.Replayed.TheVariants.{Back, Busy}
+use Rattle.world_defs.specs.declared.moved.Course.{Course}
+use Rattle.world_defs.specs.declared.moved.Course.TheVariants.{Arrives, Enters, Drops}
+use Rattle.world_defs.specs.declared.replayed.Replayed.TheVariants.{Back, Busy}
 use Rattle.net_defs.specs.declared.vertex.End.{End}
-use Rattle.cable_history.specs.History.{may_plug, with_plugged}
-use Rattle.cable_history.specs.Crossed.{leaving, life_head}
-use Rattle.link_defs.specs.Links.{Held, Caught, LinkState, packet_in, with_packet, emptied, put}
-use Rattle.link_defs.specs.Advance.{course, entered, gone_on, advance_of}
-use Rattle.link_defs.specs.Fault.{repeat_of, hold_of, is_used_up, with_caught, flip_of, caught_as, released, replay_of, pulled, pull_by, plug}
-use Rattle.link_defs.specs.Step.{Step, Put, Advance, Lose, Reset, Repeat, Hold, Flip, Replay, Pull, Plug, Accept, stepped}
-use Rattle.link_defs.proofs.Idling.{pick}
-use Rattle.link_defs.proofs.HopsLeft.{course_into-enters}
-use Rattle.link_defs.specs.Kinds.{unrouted}
+use Rattle.world_defs.specs.History.{may_plug, with_plugged}
+use Rattle.world_defs.specs.Crossed.{leaving, life_head}
+use Rattle.world_defs.specs.Links.{Held, Caught, LinkState, packet_in, with_packet, emptied, put}
+use Rattle.world_defs.specs.Advance.{course, entered, gone_on, advance_of}
+use Rattle.world_defs.specs.Fault.{repeat_of, hold_of, is_used_up, with_caught, flip_of, caught_as, released, replay_of, pulled, pull_by, plug}
+use Rattle.world_defs.specs.LinkStep.{Step, Put, Advance, Lose, Reset, Repeat, Hold, Flip, Replay, Pull, Plug, Accept, stepped}
+use Rattle.world_defs.proofs.Idling.{pick}
+use Rattle.world_defs.proofs.HopsLeft.{course_into-enters}
+use Rattle.world_defs.specs.Kinds.{unrouted}
 use Rattle.world_defs.specs.Hearing.{packet_read}
 use Rattle.world_defs.specs.World.{sum_of}
 use Rattle.injection_bounds.specs.Credit.{wire_credit, slot_credit, caught_credit, links_credit}

@@ -21,11 +21,11 @@ use Rattle.gm_defs.specs.declared.frame.Malformed.{Malformed}
 use Rattle.gm_defs.specs.Body.{ack_bytes, decode}
 use Rattle.gm_defs.specs.Connection.{ack_on}
 use Rattle.gm_defs.proofs.Bodies.{read_frame}
-use Rattle.mapper_bodies.specs.Mapping.{MappingBody, Front, mapping_bytes, is_mapping, by_the_rules, whole, two_front, byte_front, decode_mapping}
-use Rattle.mapper_bodies.specs.Mapping.MappingBody.{HostProbe, HostReply, Loopback, Part, PartAck}
+use Rattle.world_defs.specs.Mapping.{MappingBody, Front, mapping_bytes, is_mapping, by_the_rules, whole, two_front, byte_front, decode_mapping}
+use Rattle.world_defs.specs.Mapping.MappingBody.{HostProbe, HostReply, Loopback, Part, PartAck}
 use Rattle.world_defs.specs.Node.{Outgoing, Probe, TablePart, Reply, PartAnswer, FrameAnswer, Fragment, takes_from, packet_for}
 use Rattle.world_defs.specs.Hearing.{PacketBody, OfMapper, OfFrame, OfAck, Unread, mapping_read, messages_read, packet_read}
-use Rattle.link_defs.specs.Kinds.{unrouted}
+use Rattle.world_defs.specs.Kinds.{unrouted}
 use Rattle.injection_bounds.specs.Credit.{asks, wire_credit}
 
 -- one answer at most

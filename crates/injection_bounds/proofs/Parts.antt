@@ -9,8 +9,8 @@ use Rattle.net_defs.specs.declared.route.Route.{Route}
 use Rattle.net_defs.specs.Network.{Network, IsFabric}
 use Rattle.net_defs.specs.Route.{place}
 use Rattle.net_defs.specs.RouteSet.{route_below, AreRising}
-use Rattle.cable_history.specs.History.{CableHistory, fabric_at}
-use Rattle.mapper_bodies.specs.Mapping.{RouteEntry}
+use Rattle.world_defs.specs.History.{CableHistory, fabric_at}
+use Rattle.world_defs.specs.Mapping.{RouteEntry}
 use Rattle.world_defs.specs.Table.{Adoption, part_count, entries_from}
 use Rattle.world_defs.specs.World.{WorldState}
 use Rattle.run_defs.specs.Session.{LastRoutes}

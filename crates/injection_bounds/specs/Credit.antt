@@ -1,13 +1,13 @@
 -- The credit of a world: what it has in store to inject, and what may come to be in store.
 use Rattle.std.specs.Prelude.{ℕ, ◌+◌, ◌-◌, ◌*◌, List, map, length, is_some, if◌then◌else◌, Option, Some, None}
 use Rattle.packet_defs.specs.Host.{body_of}
-use Rattle.link_defs.specs.Links.{Held, Caught, LinkState}
-use Rattle.mapper_bodies.specs.Mapping.MappingBody.{HostProbe, Part}
+use Rattle.world_defs.specs.Links.{Held, Caught, LinkState}
+use Rattle.world_defs.specs.Mapping.MappingBody.{HostProbe, Part}
 use Rattle.world_defs.specs.Lane.{LaneState}
 use Rattle.world_defs.specs.Node.{NodeState}
 use Rattle.world_defs.specs.Hearing.{PacketBody, OfMapper, OfFrame, packet_read}
 use Rattle.world_defs.specs.World.{WorldState, sum_of}
-use Rattle.link_defs.specs.Kinds.{unrouted}
+use Rattle.world_defs.specs.Kinds.{unrouted}
 
 -- the answers that what a packet says asks for: a host probe, a part and a frame ask for one
 abbrev pub asks : PacketBody → ℕ

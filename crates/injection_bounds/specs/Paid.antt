@@ -7,8 +7,7 @@ use Rattle.world_defs.specs.declared.event.Event.{Event}
 use Rattle.world_defs.specs.declared.event.Event.TheVariants.{Ask, Part, Inject, Advance, Lose, Repeat, Hold, Flip}
 use Rattle.world_defs.specs.declared.event.Event.TheVariants.{Replay}
 use Rattle.world_defs.specs.declared.event.Event.TheVariants.{Reset, Expire, GiveUp, Begin, Close, Provide, Send}
-use Rattle.world_defs.specs.declared.event.Event.TheVariants.{Poll, Revoke}
-use Rattle.world_defs.specs.declared.event.Event.TheVariants.{Pull, Plug}
+use Rattle.world_defs.specs.declared.event.Event.TheVariants.{Poll, Revoke, Pull, Plug}
 use Rattle.world_defs.specs.Node.{NodeState, lane_of, lane_at}
 use Rattle.world_defs.specs.World.{WorldState, new_world, node_at}
 use Rattle.world_defs.specs.Acts.{Act, Happens, Plans, Adopts, acted, acted_all}

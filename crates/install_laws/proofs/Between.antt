@@ -3,9 +3,9 @@ use Rattle.std.proofs.Common.{◌≡◌, ◌≢◌, ℕ, Bool, true, false, ◌|
 use Rattle.std.proofs.Math.ListN.{length-set}
 use Rattle.net_defs.specs.Network.{Network}
 use Rattle.net_defs.proofs.Growing.{no_some}
-use Rattle.cable_history.specs.Later.{OnlyPulled}
-use Rattle.cable_history.proofs.Later.{pulled-later, later-kept}
-use Rattle.link_defs.specs.Links.{is_idle}
+use Rattle.world_defs.specs.Later.{OnlyPulled}
+use Rattle.world_defs.proofs.CablesLater.{pulled-later, later-kept}
+use Rattle.world_defs.specs.Links.{is_idle}
 use Rattle.world_defs.specs.Table.{Adoption, is_old}
 use Rattle.world_defs.specs.Node.{NodeState, Outgoing, new_node, has_staged, given_up, after_sending}
 use Rattle.world_defs.specs.World.{WorldState, host_count, node_at, with_node, addresses}

@@ -3,7 +3,7 @@ use Rattle.std.proofs.Common.{◌≡◌, ◌<◌, ◌≤◌, ◌+◌, ℕ, zero,
 use Rattle.std.specs.List.{AllByRecursion, range_with_len}
 use Rattle.std.specs.Map.{lookup}
 use Rattle.std.proofs.lemmas.Bool.Decides.{nat_tests}
-use Rattle.mapper_bodies.specs.Mapping.{RouteEntry, RoutePart}
+use Rattle.world_defs.specs.Mapping.{RouteEntry, RoutePart}
 use Rattle.world_defs.specs.declared.applied.Applied.{Applied}
 use Rattle.world_defs.specs.declared.applied.Applied.TheVariants.{Active, Old}
 use Rattle.world_defs.specs.Table.{ActiveTable, TableState, with_part, of_epoch, collected_with, joined_or, joined_below, is_epoch, active_epoch, is_old, applied}

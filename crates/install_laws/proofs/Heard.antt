@@ -3,8 +3,8 @@ use Rattle.std.proofs.Common.{◌≡◌, ◌<◌, ◌^◌, ℕ, Bool, true, fals
 use Rattle.std.specs.Prelude.{ℤ}
 use Rattle.std.specs.List.{AllByRecursion, list_all}
 use Rattle.net_defs.specs.Turn.{IsTurn}
-use Rattle.mapper_bodies.specs.Mapping.{RouteEntry, RoutePart, is_part}
-use Rattle.mapper_bodies.specs.Mapping.MappingBody.{Part as PartBody, PartAck}
+use Rattle.world_defs.specs.Mapping.{RouteEntry, RoutePart, is_part}
+use Rattle.world_defs.specs.Mapping.MappingBody.{Part as PartBody, PartAck}
 use Rattle.world_defs.specs.declared.applied.Applied.{Applied}
 use Rattle.world_defs.specs.declared.applied.Applied.TheVariants.{Active, Old}
 use Rattle.world_defs.specs.declared.effect.Effect.{Effect}

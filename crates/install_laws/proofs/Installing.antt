@@ -3,10 +3,10 @@ use Rattle.std.proofs.Common.{◌≡◌, ℕ, Bool, true, false, ◌&&◌, ◌||
 use Rattle.std.specs.List.{AllByRecursion}
 use Rattle.std.proofs.lemmas.Bool.Decides.{nat_tests}
 use Rattle.net_defs.specs.Network.{Network}
-use Rattle.cable_history.specs.declared.wire.Wire.{Wire}
-use Rattle.cable_history.specs.History.{IsDated, fabric_at}
-use Rattle.cable_history.proofs.Later.{pulled-later, later-past}
-use Rattle.link_defs.specs.Links.{LinkState, is_idle}
+use Rattle.world_defs.specs.declared.wire.Wire.{Wire}
+use Rattle.world_defs.specs.History.{IsDated, fabric_at}
+use Rattle.world_defs.proofs.CablesLater.{pulled-later, later-past}
+use Rattle.world_defs.specs.Links.{LinkState, is_idle}
 use Rattle.world_defs.specs.Table.{Adoption, TableState, at_in, has_revoked, is_old}
 use Rattle.world_defs.specs.World.{WorldState, new_world, node_at}
 use Rattle.world_defs.specs.Asking.{all_given_up}

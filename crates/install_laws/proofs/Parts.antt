@@ -11,7 +11,7 @@ use Rattle.net_defs.specs.declared.route.Route.{Route}
 use Rattle.net_defs.specs.Network.{Network, IsFabric}
 use Rattle.net_defs.specs.Turn.{is_turn, IsTurn}
 use Rattle.net_defs.specs.Route.{place}
-use Rattle.mapper_bodies.specs.Mapping.{RouteEntry, RoutePart, is_route, are_entries, is_part}
+use Rattle.world_defs.specs.Mapping.{RouteEntry, RoutePart, is_route, are_entries, is_part}
 use Rattle.net_defs.specs.RouteSet.{route_below, AreRising, HasRoute}
 use Rattle.world_defs.specs.Table.{Adoption, route_of, entries_from, part_count, part_entries, part_for}
 use Rattle.table_laws.proofs.Sets.{RouteFits, routes-fit, entries-all}

@@ -7,10 +7,10 @@ use Rattle.std.proofs.lemmas.Bool.Decides.{nat_tests}
 use Rattle.net_defs.specs.declared.place.Place.TheVariants.{Host as AtHost}
 use Rattle.net_defs.specs.Network.{Network}
 use Rattle.net_defs.specs.Route.{place}
-use Rattle.cable_history.specs.declared.wire.Wire.{Wire}
-use Rattle.cable_history.specs.History.{CableHistory, IsDated, IsHistory, fabric_at, is_pulled_after}
-use Rattle.cable_history.specs.Crossed.{channels_at, is_cut}
-use Rattle.cable_history.proofs.Kept.{all-got}
+use Rattle.world_defs.specs.declared.wire.Wire.{Wire}
+use Rattle.world_defs.specs.History.{CableHistory, IsDated, IsHistory, fabric_at, is_pulled_after}
+use Rattle.world_defs.specs.Crossed.{channels_at, is_cut}
+use Rattle.world_defs.proofs.CablesKept.{all-got}
 use Rattle.world_defs.specs.Table.{Adoption, at_in, route_of}
 use Rattle.world_defs.specs.Traffic.{adopted_routes, routes_in, is_cut_walk, is_broken}
 use Rattle.world_defs.specs.World.{WorldState, fabric_of}

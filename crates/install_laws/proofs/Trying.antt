@@ -4,8 +4,8 @@ use Rattle.std.specs.Prelude.{ℤ}
 use Rattle.std.specs.List.{list_all}
 use Rattle.std.proofs.lemmas.List.{get_or-set_same}
 use Rattle.net_defs.specs.Network.{Network, IsFabric}
-use Rattle.mapper_bodies.specs.Mapping.{RoutePart}
-use Rattle.mapper_bodies.specs.Mapping.MappingBody.{Part as PartBody, PartAck}
+use Rattle.world_defs.specs.Mapping.{RoutePart}
+use Rattle.world_defs.specs.Mapping.MappingBody.{Part as PartBody, PartAck}
 use Rattle.world_defs.specs.declared.event.Event.TheVariants.{Part}
 use Rattle.world_defs.specs.declared.effect.Effect.TheVariants.{Arrived}
 use Rattle.world_defs.specs.declared.heard.Heard.TheVariants.{Routes, RoutesAck}

@@ -11,7 +11,7 @@ use Rattle.world_defs.specs.Logs as log
 use Rattle.world_defs.proofs.LogViews.{tries-by, parts-by, Tried, part_try, part_tries, parts_installed, hosts_installed}
 use Rattle.install_laws.specs.Premises.{IsJoined}
 use Rattle.install_laws.specs.Kept.{IsInstallKept}
-use Rattle.cable_history.proofs.Later.{pulled-later, later-kept}
+use Rattle.world_defs.proofs.CablesLater.{pulled-later, later-kept}
 use Rattle.install_laws.specs.Cause.{EachTryWasHarmed, IsCutOff, HasHarmedPart, EachMissedWasHarmed}
 use Rattle.install_laws.proofs.Since.{unbroken}
 use Rattle.install_laws.specs.Tables.{has_table, EachCountedHasTable}

@@ -1,6 +1,6 @@
 -- What an installation leaves as it was.
 use Rattle.std.specs.Prelude.{◌≡◌, ℕ, true, List}
-use Rattle.link_defs.specs.Links.{is_idle}
+use Rattle.world_defs.specs.Links.{is_idle}
 use Rattle.world_defs.specs.Table.{Adoption}
 use Rattle.world_defs.specs.World.{WorldState}
 use Rattle.world_defs.specs.Logs.{install}

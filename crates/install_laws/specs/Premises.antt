@@ -1,8 +1,8 @@
 -- What an installation is made over.
 use Rattle.std.specs.Prelude.{◌≡◌, ◌≢◌, ℕ, ◌≤◌, ◌<◌, true, false, List, length, Some}
 use Rattle.std.specs.List.{AllByRecursion}
-use Rattle.cable_history.specs.History.{fabric_at}
-use Rattle.link_defs.specs.Links.{is_idle}
+use Rattle.world_defs.specs.History.{fabric_at}
+use Rattle.world_defs.specs.Links.{is_idle}
 use Rattle.net_defs.specs.RouteSet.{AreRising, HasRoute}
 use Rattle.world_defs.specs.Table.{Adoption, has_revoked}
 use Rattle.world_defs.specs.World.{WorldState, host_count, node_at}

@@ -7,9 +7,9 @@ use Rattle.net_defs.specs.declared.vertex.Cable.{Cable}
 use Rattle.net_defs.specs.Network.{Network, same_end}
 use Rattle.net_defs.specs.Building.{with_cable}
 use Rattle.port_graph.specs.Removing.{without_end, without_cable}
-use Rattle.cable_history.specs.declared.wire.Wire.{Wire}
-use Rattle.cable_history.specs.History.{CableHistory, is_in_place, fabric_now, pulled_by, with_pulled, with_plugged}
-use Rattle.cable_history.specs.Crossed.{channel_by, leaving, pulled_with, pulled_at}
+use Rattle.world_defs.specs.declared.wire.Wire.{Wire}
+use Rattle.world_defs.specs.History.{CableHistory, is_in_place, fabric_now, pulled_by, with_pulled, with_plugged}
+use Rattle.world_defs.specs.Crossed.{channel_by, leaving, pulled_with, pulled_at}
 
 -- the cables in place
 abbrev cables_in : List Wire → List Cable

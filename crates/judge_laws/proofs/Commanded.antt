@@ -6,7 +6,7 @@ use Rattle.std.proofs.lemmas.Option.{same_Some}
 use Rattle.net_defs.specs.Network.{Network, IsFabric}
 use Rattle.net_defs.specs.declared.vertex.End.{End}
 use Rattle.journal_defs.specs.declared.entry.Entry.{Entry}
-use Rattle.cable_history.specs.Crossed.{leaving}
+use Rattle.world_defs.specs.Crossed.{leaving}
 use Rattle.net_defs.proofs.Distinct.{all-weaker}
 use Rattle.journal_defs.proofs.Members.{all-join}
 use Rattle.fabric_file.specs.Reading.{AreNamed}

@@ -16,10 +16,10 @@ use Rattle.net_defs.specs.Route.{place, place_at, place_at_vertex, entered_after
 use Rattle.net_defs.proofs.Ends.{same_end-refl}
 use Rattle.net_defs.proofs.Places.{far-there}
 use Rattle.net_defs.proofs.Cabling.{entered-there}
-use Rattle.cable_history.proofs.Now.{now_is_fabric}
+use Rattle.world_defs.proofs.Now.{now_is_fabric}
 use Rattle.fabric_file.proofs.Names.{vertex-there}
 use Rattle.fab_script.specs.Ranges.{IsHost, IsEnd}
-use Rattle.link_defs.specs.Links.{is_idle}
+use Rattle.world_defs.specs.Links.{is_idle}
 use Rattle.map_defs.specs.declared.vertex.MapVertex.{MapVertex}
 use Rattle.map_defs.specs.NetMap.{NetMap, hosts_of}
 use Rattle.map_defs.specs.Orientation.{order_of}
@@ -32,8 +32,8 @@ use Rattle.map_defs.specs.Ranks.{ranks_of}
 use Rattle.map_defs.proofs.Places.{places_are_an_order}
 use Rattle.map_canon.specs.Reading.{map_reading}
 use Rattle.world_defs.specs.declared.effect.Effect.{Effect}
-use Rattle.cable_history.specs.History.{fabric_now}
-use Rattle.link_defs.specs.Fault.{accept}
+use Rattle.world_defs.specs.History.{fabric_now}
+use Rattle.world_defs.specs.Fault.{accept}
 use Rattle.world_defs.specs.World.{WorldState, fabric_of, node_at, planned, adopted_by, keeps_epoch, last_count}
 use Rattle.world_defs.specs.Settle.{unacknowledged_in}
 use Rattle.world_defs.specs.Traffic.{is_broken}

@@ -2,7 +2,7 @@
 use Rattle.std.proofs.Common.{◌≡◌, ◌++◌, ℕ, true, List, [], ◌∷◌, length, replicate, get_or, Option, Some, None, option_map, refl, sym, ap, ◌∙◌, subst, true≢false, if◌then◌else◌}
 use Rattle.std.specs.List.{AllByRecursion}
 use Rattle.net_defs.specs.Network.{Network, IsFabric}
-use Rattle.cable_history.proofs.First.{first_stands}
+use Rattle.world_defs.proofs.First.{first_stands}
 use Rattle.gm_defs.specs.Token.{PortState}
 use Rattle.journal_defs.proofs.Members.{all-join}
 use Rattle.fabric_file.specs.Reading.{AreNamed}

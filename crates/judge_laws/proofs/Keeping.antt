@@ -1,6 +1,6 @@
 -- Commands of the network leave how many tokens each port was opened with, and its client.
 use Rattle.std.proofs.Common.{◌≡◌, ℕ, true, false, List, [], ◌∷◌, map, Option, Some, None, option_map, IfSome, refl, sym, ◌∙◌, subst, true≢false}
-use Rattle.cable_history.specs.Crossed.{leaving}
+use Rattle.world_defs.specs.Crossed.{leaving}
 use Rattle.journal_defs.specs.declared.entry.Entry.{Entry}
 use Rattle.std.specs.List.{AllByRecursion}
 use Rattle.net_defs.specs.declared.route.Route.{Route}

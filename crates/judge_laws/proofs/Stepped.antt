@@ -9,23 +9,23 @@ use Rattle.net_defs.specs.declared.vertex.Vertex.{Vertex}
 use Rattle.net_defs.specs.declared.vertex.Vertex.TheVariants.{Host, Switch}
 use Rattle.net_defs.specs.declared.vertex.End.{End}
 use Rattle.net_defs.specs.Network.{Network, has_port, ports_of, ends_of}
-use Rattle.cable_history.specs.declared.wire.Wire.{Wire}
-use Rattle.cable_history.specs.History.{CableHistory, IsHistory, IsDated, is_in_place, stood_at, is_pulled_after, fabric_at}
-use Rattle.cable_history.specs.Crossed.{leaving, is_new, life_tail, is_standing, life_channels}
+use Rattle.world_defs.specs.declared.wire.Wire.{Wire}
+use Rattle.world_defs.specs.History.{CableHistory, IsHistory, IsDated, is_in_place, stood_at, is_pulled_after, fabric_at}
+use Rattle.world_defs.specs.Crossed.{leaving, is_new, life_tail, is_standing, life_channels}
 use Rattle.fabric_file.proofs.Names.{all-nth, vertex-there}
-use Rattle.link_defs.specs.declared.moved.Course.TheVariants.{Arrives, Enters, Drops}
-use Rattle.link_defs.specs.declared.replayed.Replayed.{Replayed}
-use Rattle.link_defs.specs.declared.replayed.Replayed.TheVariants.{Back, Busy}
-use Rattle.link_defs.specs.declared.turned.Turned.{Turned}
-use Rattle.link_defs.specs.declared.turned.Turned.TheVariants.{Out, OutOfRange as TurnedTooFar, NotRoute as NoTurn}
-use Rattle.link_defs.specs.declared.moved.Why.TheVariants.{NewCable}
-use Rattle.link_defs.specs.Kinds.{is_mapping}
-use Rattle.link_defs.specs.Advance.{course, course_at, course_into, course_out, course_by_channel}
-use Rattle.link_defs.specs.Fault.{replay, replay_of, released, caught_as}
-use Rattle.link_defs.specs.Links.{LinkState, Caught, packet_in}
-use Rattle.link_defs.specs.Shape.{IsLinks}
-use Rattle.link_defs.specs.Step.{Step, Advance as AdvanceLinks, Replay as ReplayLinks, stepped}
-use Rattle.link_defs.proofs.Shapes.{stepped-cables}
+use Rattle.world_defs.specs.declared.moved.Course.TheVariants.{Arrives, Enters, Drops}
+use Rattle.world_defs.specs.declared.replayed.Replayed.{Replayed}
+use Rattle.world_defs.specs.declared.replayed.Replayed.TheVariants.{Back, Busy}
+use Rattle.world_defs.specs.declared.turned.Turned.{Turned}
+use Rattle.world_defs.specs.declared.turned.Turned.TheVariants.{Out, OutOfRange as TurnedTooFar, NotRoute as NoTurn}
+use Rattle.world_defs.specs.declared.moved.Why.TheVariants.{NewCable}
+use Rattle.world_defs.specs.Kinds.{is_mapping}
+use Rattle.world_defs.specs.Advance.{course, course_at, course_into, course_out, course_by_channel}
+use Rattle.world_defs.specs.Fault.{replay, replay_of, released, caught_as}
+use Rattle.world_defs.specs.Links.{LinkState, Caught, packet_in}
+use Rattle.world_defs.specs.Shape.{IsLinks}
+use Rattle.world_defs.specs.LinkStep.{Step, Advance as AdvanceLinks, Replay as ReplayLinks, stepped}
+use Rattle.world_defs.proofs.Shapes.{stepped-cables}
 use Rattle.lawful_laws.proofs.Ahead.{next-stands}
 use Rattle.fab_script.specs.Ranges.{IsHost, IsEnd}
 use Rattle.world_defs.specs.declared.event.Event.{Event}

@@ -19,24 +19,24 @@ use Rattle.packet_defs.specs.RouteByte.{route_byte, turn_of}
 use Rattle.packet_defs.specs.Packet.{type_of, head_of, packet_of, head, front_turn, stripped}
 use Rattle.packet_defs.proofs.Packets.{ended, head-push, stripped-push}
 use Rattle.packet_defs.proofs.RouteBytes.{turn_of-route_byte}
-use Rattle.link_defs.specs.declared.turned.Turned.{Turned}
-use Rattle.link_defs.specs.declared.turned.Turned.TheVariants.{Out, OutOfRange as TurnedTooFar, NotRoute as NoTurn}
-use Rattle.link_defs.specs.declared.moved.Course.TheVariants.{Enters, Drops}
-use Rattle.link_defs.specs.declared.moved.Why.TheVariants.{NewCable}
-use Rattle.link_defs.specs.Kinds.{is_mapping, is_gm}
-use Rattle.link_defs.proofs.KindsKept.{gm-no_mapping}
-use Rattle.link_defs.specs.Switch.{aim, aim_of, out_by}
-use Rattle.link_defs.specs.Advance.{course, course_at, course_by_channel, course_into, course_out}
-use Rattle.cable_history.specs.declared.wire.Wire.{Wire}
-use Rattle.cable_history.specs.History.{CableHistory, IsHistory, fabric_by, fabric_now, is_in_place, is_left, may_plug, with_plugged}
-use Rattle.cable_history.specs.Crossed.{leaving, channel_by, channels_by, channels_at, life_channels, life_tail, life_head, is_standing, is_new, pulled_at}
-use Rattle.cable_history.specs.Fewer.{HasFewer}
-use Rattle.cable_history.specs.Later.{OnlyPulled, IsLater, IsChannelKept}
-use Rattle.cable_history.proofs.Fewer.{fewer_front}
-use Rattle.cable_history.proofs.ForLife.{passes_at, leaving_over, leaving_has_its_end, passing-leaves}
-use Rattle.cable_history.proofs.Later.{kept-pull, channel-pull, channel-plug, pulled-left, later-past-channels}
-use Rattle.cable_history.proofs.Left.{left-fabric, left-passes, left-plug}
-use Rattle.cable_history.proofs.Now.{now_is_fabric}
+use Rattle.world_defs.specs.declared.turned.Turned.{Turned}
+use Rattle.world_defs.specs.declared.turned.Turned.TheVariants.{Out, OutOfRange as TurnedTooFar, NotRoute as NoTurn}
+use Rattle.world_defs.specs.declared.moved.Course.TheVariants.{Enters, Drops}
+use Rattle.world_defs.specs.declared.moved.Why.TheVariants.{NewCable}
+use Rattle.world_defs.specs.Kinds.{is_mapping, is_gm}
+use Rattle.world_defs.proofs.KindsKept.{gm-no_mapping}
+use Rattle.world_defs.specs.Switch.{aim, aim_of, out_by}
+use Rattle.world_defs.specs.Advance.{course, course_at, course_by_channel, course_into, course_out}
+use Rattle.world_defs.specs.declared.wire.Wire.{Wire}
+use Rattle.world_defs.specs.History.{CableHistory, IsHistory, fabric_by, fabric_now, is_in_place, is_left, may_plug, with_plugged}
+use Rattle.world_defs.specs.Crossed.{leaving, channel_by, channels_by, channels_at, life_channels, life_tail, life_head, is_standing, is_new, pulled_at}
+use Rattle.world_defs.specs.Fewer.{HasFewer}
+use Rattle.world_defs.specs.Later.{OnlyPulled, IsLater, IsChannelKept}
+use Rattle.world_defs.proofs.Fewer.{fewer_front}
+use Rattle.world_defs.proofs.ForLife.{passes_at, leaving_over, leaving_has_its_end, passing-leaves}
+use Rattle.world_defs.proofs.CablesLater.{kept-pull, channel-pull, channel-plug, pulled-left, later-past-channels}
+use Rattle.world_defs.proofs.Left.{left-fabric, left-passes, left-plug}
+use Rattle.world_defs.proofs.Now.{now_is_fabric}
 use Rattle.table_laws.proofs.Sets.{port-there}
 use Rattle.world_defs.specs.Traffic.{front_turn_then, front_turns}
 

@@ -3,8 +3,8 @@ use Rattle.std.proofs.Common.{◌≡◌, ℕ, Bool, true, false, List, [], ◌�
 use Rattle.std.specs.Prelude.{option_and_then}
 use Rattle.std.specs.Int.{w16, w32, w64, to_be_bytes}
 use Rattle.std.proofs.lemmas.Option.{same_Some}
-use Rattle.mapper_bodies.specs.Mapping.{RoutePart, MappingBody, Front, decode_mapping, mapping_bytes, is_mapping, by_the_rules, of_kind, whole, two_front, route_front, byte_front, route_bytes}
-use Rattle.mapper_bodies.specs.Mapping.MappingBody.{HostProbe, HostReply, Loopback, Part, PartAck}
+use Rattle.world_defs.specs.Mapping.{RoutePart, MappingBody, Front, decode_mapping, mapping_bytes, is_mapping, by_the_rules, of_kind, whole, two_front, route_front, byte_front, route_bytes}
+use Rattle.world_defs.specs.Mapping.MappingBody.{HostProbe, HostReply, Loopback, Part, PartAck}
 use Rattle.gm_defs.proofs.Choices.{if-some, map-some, then-some}
 use Rattle.lawful_laws.specs.Probes.{is_probe}
 

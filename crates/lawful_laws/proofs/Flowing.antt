@@ -3,20 +3,20 @@ use Rattle.std.proofs.Common.{◌≡◌, ◌<◌, ℕ, zero, suc, Bool, true, fa
 use Rattle.std.specs.List.{AllByRecursion}
 use Rattle.net_defs.specs.declared.route.Route.{Route}
 use Rattle.net_defs.specs.Network.{Network}
-use Rattle.cable_history.specs.History.{CableHistory, IsHistory, fabric_at, stood_at, is_in_place}
-use Rattle.cable_history.specs.Crossed.{channels_at, is_standing, is_new}
-use Rattle.cable_history.proofs.Now.{now_is_fabric}
-use Rattle.cable_history.proofs.Standing.{compact}
-use Rattle.link_defs.specs.Kinds.{is_gm}
-use Rattle.link_defs.proofs.KindsKept.{is_gm-stripped}
+use Rattle.world_defs.specs.History.{CableHistory, IsHistory, fabric_at, stood_at, is_in_place}
+use Rattle.world_defs.specs.Crossed.{channels_at, is_standing, is_new}
+use Rattle.world_defs.proofs.Now.{now_is_fabric}
+use Rattle.world_defs.proofs.CablesStanding.{compact}
+use Rattle.world_defs.specs.Kinds.{is_gm}
+use Rattle.world_defs.proofs.KindsKept.{is_gm-stripped}
 use Rattle.packet_defs.specs.Packet.{stripped}
-use Rattle.link_defs.specs.declared.moved.Moved.{Moved}
-use Rattle.link_defs.specs.declared.moved.Moved.TheVariants.{To, AtHost, Dropped as MovedDropped, Blocked as MovedBlocked, Empty}
-use Rattle.link_defs.specs.declared.moved.Course.{Course}
-use Rattle.link_defs.specs.declared.moved.Course.TheVariants.{Arrives, Enters, Drops}
-use Rattle.link_defs.specs.Links.{Held, LinkState, packet_in, with_packet, emptied}
-use Rattle.link_defs.specs.Advance.{course, entered, gone_on, advance_of, advance}
-use Rattle.link_defs.specs.Fault.{reset}
+use Rattle.world_defs.specs.declared.moved.Moved.{Moved}
+use Rattle.world_defs.specs.declared.moved.Moved.TheVariants.{To, AtHost, Dropped as MovedDropped, Blocked as MovedBlocked, Empty}
+use Rattle.world_defs.specs.declared.moved.Course.{Course}
+use Rattle.world_defs.specs.declared.moved.Course.TheVariants.{Arrives, Enters, Drops}
+use Rattle.world_defs.specs.Links.{Held, LinkState, packet_in, with_packet, emptied}
+use Rattle.world_defs.specs.Advance.{course, entered, gone_on, advance_of, advance}
+use Rattle.world_defs.specs.Fault.{reset}
 use Rattle.world_defs.specs.declared.event.Event.{Event}
 use Rattle.world_defs.specs.declared.event.Event.TheVariants.{Advance, Reset}
 use Rattle.world_defs.specs.declared.effect.Effect.TheVariants.{Reset as WasReset}

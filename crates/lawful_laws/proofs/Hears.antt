@@ -5,8 +5,8 @@ use Rattle.packet_defs.specs.declared.kind.Kind.{Kind}
 use Rattle.packet_defs.specs.declared.kind.Kind.TheVariants.{Mapping}
 use Rattle.packet_defs.specs.Host.{decode as decode_packet}
 use Rattle.gm_defs.specs.Body.{part_in}
-use Rattle.mapper_bodies.specs.Mapping.{RoutePart, is_route, is_mapping}
-use Rattle.mapper_bodies.specs.Mapping.MappingBody.{HostProbe}
+use Rattle.world_defs.specs.Mapping.{RoutePart, is_route, is_mapping}
+use Rattle.world_defs.specs.Mapping.MappingBody.{HostProbe}
 use Rattle.gm_defs.proofs.Choices.{both}
 use Rattle.world_defs.specs.declared.applied.Applied.{Applied}
 use Rattle.world_defs.specs.declared.applied.Applied.TheVariants.{Part as OnePart, Active, Old}

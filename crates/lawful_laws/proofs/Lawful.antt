@@ -5,13 +5,13 @@ use Rattle.net_defs.specs.declared.route.Route.{Route}
 use Rattle.net_defs.specs.Network.{Network}
 use Rattle.packet_defs.specs.declared.kind.Kind.{Kind}
 use Rattle.packet_defs.specs.Packet.{packet_of}
-use Rattle.cable_history.specs.History.{CableHistory, is_in_place, was_plugged}
-use Rattle.cable_history.specs.Crossed.{channels_at, is_standing, is_new}
-use Rattle.cable_history.proofs.Left.{unplugged-old}
-use Rattle.link_defs.specs.Kinds.{is_gm}
-use Rattle.link_defs.specs.Links.{Held, Caught, LinkState, packet_in}
-use Rattle.link_defs.specs.Fault.{accept}
-use Rattle.link_defs.proofs.KindsKept.{gm-is}
+use Rattle.world_defs.specs.History.{CableHistory, is_in_place, was_plugged}
+use Rattle.world_defs.specs.Crossed.{channels_at, is_standing, is_new}
+use Rattle.world_defs.proofs.Left.{unplugged-old}
+use Rattle.world_defs.specs.Kinds.{is_gm}
+use Rattle.world_defs.specs.Links.{Held, Caught, LinkState, packet_in}
+use Rattle.world_defs.specs.Fault.{accept}
+use Rattle.world_defs.proofs.KindsKept.{gm-is}
 use Rattle.world_defs.specs.Table.{Adoption, epoch_in, at_in, whole_table}
 use Rattle.world_defs.specs.Node.{NodeState, Staged, StagedProbe, StagedPart, StagedAck, new_node}
 use Rattle.world_defs.specs.World.{WorldState, new_world, node_at, epoch_of, standing_of, keeps_epoch, adoption_of, adopted_by}

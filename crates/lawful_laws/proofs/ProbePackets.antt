@@ -11,10 +11,10 @@ use Rattle.packet_defs.specs.Packet.{head_of, head, packet_of}
 use Rattle.packet_defs.specs.Host.{kind_of, of_kind, body_of}
 use Rattle.packet_defs.proofs.Packets.{head-push}
 use Rattle.packet_defs.proofs.RouteBytes.{turn_of-route_byte}
-use Rattle.link_defs.specs.Kinds.{unrouted}
-use Rattle.mapper_bodies.specs.Mapping.{MappingBody, mapping_bytes, decode_mapping}
-use Rattle.mapper_bodies.specs.Mapping.MappingBody.{HostProbe, HostReply, Loopback, Part, PartAck}
-use Rattle.mapper_bodies.proofs.Mappings.{mapping-read}
+use Rattle.world_defs.specs.Kinds.{unrouted}
+use Rattle.world_defs.specs.Mapping.{MappingBody, mapping_bytes, decode_mapping}
+use Rattle.world_defs.specs.Mapping.MappingBody.{HostProbe, HostReply, Loopback, Part, PartAck}
+use Rattle.world_defs.proofs.Mappings.{mapping-read}
 use Rattle.lawful_laws.specs.Probes.{is_probe, ProbeIsRead, ProbeIsNothingElse, GmIsNoProbe, PartIsNoProbe}
 use Rattle.lawful_laws.specs.Former.{IsPacketOf}
 use Rattle.lawful_laws.proofs.Bodies.{probe-read}

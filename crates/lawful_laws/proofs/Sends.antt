@@ -6,17 +6,17 @@ use Rattle.std.proofs.lemmas.Bool.Decides.{nat_tests}
 use Rattle.std.proofs.lemmas.Option.{same_Some}
 use Rattle.net_defs.specs.Turn.{IsTurn, is_turn}
 use Rattle.net_defs.specs.Route.{host_port}
-use Rattle.cable_history.specs.History.{CableHistory, IsHistory, was_plugged}
-use Rattle.cable_history.specs.Crossed.{leaving, is_new}
-use Rattle.cable_history.proofs.Left.{unplugged-old}
+use Rattle.world_defs.specs.History.{CableHistory, IsHistory, was_plugged}
+use Rattle.world_defs.specs.Crossed.{leaving, is_new}
+use Rattle.world_defs.proofs.Left.{unplugged-old}
 use Rattle.packet_defs.specs.declared.kind.Kind.{Kind}
 use Rattle.packet_defs.specs.declared.kind.Kind.TheVariants.{Mapping, Gm}
 use Rattle.packet_defs.specs.Packet.{packet_of}
-use Rattle.link_defs.specs.Links.{Held}
+use Rattle.world_defs.specs.Links.{Held}
 use Rattle.gm_defs.specs.declared.frame.FrameHead.{FrameHead}
 use Rattle.gm_defs.specs.Body.{frame_bytes, ack_bytes}
-use Rattle.mapper_bodies.specs.Mapping.{RoutePart, MappingBody, is_route, is_mapping, decode_mapping, mapping_bytes}
-use Rattle.mapper_bodies.specs.Mapping.MappingBody.{HostProbe, HostReply, Loopback, Part, PartAck}
+use Rattle.world_defs.specs.Mapping.{RoutePart, MappingBody, is_route, is_mapping, decode_mapping, mapping_bytes}
+use Rattle.world_defs.specs.Mapping.MappingBody.{HostProbe, HostReply, Loopback, Part, PartAck}
 use Rattle.world_defs.specs.Table.{table_route}
 use Rattle.world_defs.specs.Node.{NodeState, Staged, StagedReply, StagedAck, StagedProbe, StagedPart, Outgoing, Probe, TablePart, Reply, PartAnswer, FrameAnswer, Fragment, is_message, peer_of, takes_from, lane_at, lane_route, way_back, outgoing_staged, owed_on, due_on, due_frame, either, first_some, lanes_of, to_send, packet_for}
 use Rattle.table_laws.specs.Set.{IsFitPart}

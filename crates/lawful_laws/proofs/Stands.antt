@@ -7,17 +7,17 @@ use Rattle.net_defs.specs.declared.vertex.End.{End}
 use Rattle.net_defs.specs.Network.{Network}
 use Rattle.net_defs.proofs.Distinct.{all-weaker}
 use Rattle.net_defs.specs.Route.{host_port}
-use Rattle.cable_history.specs.declared.wire.Wire.{Wire}
-use Rattle.cable_history.specs.History.{CableHistory, IsHistory, is_in_place, may_plug, pulled_by, with_pulled, with_plugged}
-use Rattle.cable_history.specs.Crossed.{leaving, is_standing}
-use Rattle.cable_history.proofs.ForLife.{leaving_has_its_end}
-use Rattle.cable_history.proofs.Left.{standing-low, standing-other, standing-plug}
-use Rattle.link_defs.specs.Links.{Held, Caught, LinkState, packet_in, with_packet}
-use Rattle.link_defs.specs.Laws.{is_of_cables}
-use Rattle.link_defs.specs.Fault.{accept, without_cable, pulled, pull_by, pull, plug}
-use Rattle.link_defs.specs.Step.{Step, Put as PutLinks, Advance as AdvanceLinks, Lose as LoseLinks, Repeat as RepeatLinks, Hold as HoldLinks, Flip as FlipLinks, stepped}
-use Rattle.link_defs.proofs.Idling.{pick}
-use Rattle.link_defs.proofs.Shapes.{stepped-cables}
+use Rattle.world_defs.specs.declared.wire.Wire.{Wire}
+use Rattle.world_defs.specs.History.{CableHistory, IsHistory, is_in_place, may_plug, pulled_by, with_pulled, with_plugged}
+use Rattle.world_defs.specs.Crossed.{leaving, is_standing}
+use Rattle.world_defs.proofs.ForLife.{leaving_has_its_end}
+use Rattle.world_defs.proofs.Left.{standing-low, standing-other, standing-plug}
+use Rattle.world_defs.specs.Links.{Held, Caught, LinkState, packet_in, with_packet}
+use Rattle.world_defs.specs.LinkLaws.{is_of_cables}
+use Rattle.world_defs.specs.Fault.{accept, without_cable, pulled, pull_by, pull, plug}
+use Rattle.world_defs.specs.LinkStep.{Step, Put as PutLinks, Advance as AdvanceLinks, Lose as LoseLinks, Repeat as RepeatLinks, Hold as HoldLinks, Flip as FlipLinks, stepped}
+use Rattle.world_defs.proofs.Idling.{pick}
+use Rattle.world_defs.proofs.Shapes.{stepped-cables}
 use Rattle.world_defs.specs.declared.event.Event.{Event}
 use Rattle.world_defs.specs.declared.effect.Effect.{Effect}
 use Rattle.world_defs.specs.declared.fault.Fault.{Fault}

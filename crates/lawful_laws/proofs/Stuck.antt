@@ -4,17 +4,17 @@ use Rattle.std.specs.List.{slice_get, AllByRecursion}
 use Rattle.std.proofs.lemmas.Bool.{cases_lt}
 use Rattle.std.proofs.lemmas.Option.{same_Some}
 use Rattle.net_defs.specs.declared.route.Route.{Route}
-use Rattle.cable_history.specs.History.{CableHistory, IsHistory, is_left}
-use Rattle.cable_history.specs.Crossed.{channels_at, is_standing, is_new}
-use Rattle.cable_history.proofs.Left.{left-fabric, left-passes}
+use Rattle.world_defs.specs.History.{CableHistory, IsHistory, is_left}
+use Rattle.world_defs.specs.Crossed.{channels_at, is_standing, is_new}
+use Rattle.world_defs.proofs.Left.{left-fabric, left-passes}
 use Rattle.net_defs.specs.Dependencies.{IsNext}
-use Rattle.link_defs.specs.declared.moved.Course.{Course}
-use Rattle.link_defs.specs.declared.moved.Course.TheVariants.{Arrives, Enters, Drops}
-use Rattle.link_defs.specs.Links.{Held, LinkState, packet_in, emptied}
-use Rattle.link_defs.specs.Advance.{course, entered, gone_on, advance_of, advance}
-use Rattle.link_defs.specs.Hops.{changes, is_stuck}
-use Rattle.link_defs.proofs.HopsLeft.{still-advance}
-use Rattle.link_defs.proofs.Idling.{stuck-still}
+use Rattle.world_defs.specs.declared.moved.Course.{Course}
+use Rattle.world_defs.specs.declared.moved.Course.TheVariants.{Arrives, Enters, Drops}
+use Rattle.world_defs.specs.Links.{Held, LinkState, packet_in, emptied}
+use Rattle.world_defs.specs.Advance.{course, entered, gone_on, advance_of, advance}
+use Rattle.world_defs.specs.Hops.{changes, is_stuck}
+use Rattle.world_defs.proofs.HopsLeft.{still-advance}
+use Rattle.world_defs.proofs.Idling.{stuck-still}
 use Rattle.lawful_laws.proofs.Ahead.{IsLedBy, ahead-two, next-stands}
 
 -- a packet that can't go on: the channel that it wants next is full

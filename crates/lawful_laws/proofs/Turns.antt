@@ -8,7 +8,7 @@ use Rattle.std.proofs.lemmas.List.{map-append, length-map, length-reverse}
 use mathlib.Core.List.{reverse-cons}
 use Rattle.net_defs.specs.Turn.{is_turn, IsTurn}
 use Rattle.net_defs.proofs.Distinct.{all-push}
-use Rattle.mapper_bodies.specs.Mapping.{is_route}
+use Rattle.world_defs.specs.Mapping.{is_route}
 use Rattle.gm_defs.proofs.Choices.{both}
 use Rattle.world_defs.specs.Node.{way_back}
 

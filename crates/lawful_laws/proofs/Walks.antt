@@ -9,12 +9,12 @@ use Rattle.net_defs.specs.Turn.{is_turn}
 use Rattle.net_defs.specs.Route.{host_port}
 use Rattle.packet_defs.specs.declared.kind.Kind.{Kind}
 use Rattle.packet_defs.specs.Packet.{packet_of}
-use Rattle.cable_history.specs.History.{CableHistory, IsHistory, stood_at, is_left}
-use Rattle.cable_history.specs.Crossed.{leaving, channels_by, channels_at, life_tail, is_new}
-use Rattle.cable_history.proofs.Fewer.{fewer_front}
-use Rattle.cable_history.proofs.Pulled.{left_stood}
-use Rattle.cable_history.proofs.ForLife.{leaving_has_its_end}
-use Rattle.mapper_bodies.specs.Mapping.{RouteEntry, RoutePart}
+use Rattle.world_defs.specs.History.{CableHistory, IsHistory, stood_at, is_left}
+use Rattle.world_defs.specs.Crossed.{leaving, channels_by, channels_at, life_tail, is_new}
+use Rattle.world_defs.proofs.Fewer.{fewer_front}
+use Rattle.world_defs.proofs.Pulled.{left_stood}
+use Rattle.world_defs.proofs.ForLife.{leaving_has_its_end}
+use Rattle.world_defs.specs.Mapping.{RouteEntry, RoutePart}
 use Rattle.gm_defs.proofs.Choices.{both, map-some, then-some}
 use Rattle.world_defs.specs.Table.{Adoption, ActiveTable, TableState, entries_from, part_count, part_with, part_for, route_of, table_route}
 use Rattle.world_defs.specs.Traffic.{routes_in}

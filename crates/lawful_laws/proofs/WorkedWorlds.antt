@@ -4,7 +4,7 @@ use Rattle.std.proofs.lemmas.Option.{same_Some}
 use Rattle.net_defs.specs.Network.{IsFabric}
 use Rattle.net_defs.specs.Examples.{two_hosts, self_cabled}
 use Rattle.net_defs.proofs.TwoHosts.{two_hosts_fabric}
-use Rattle.link_defs.specs.Links.{Held, packet_in}
+use Rattle.world_defs.specs.Links.{Held, packet_in}
 use Rattle.world_defs.specs.Examples.{setup_routes}
 use Rattle.world_defs.specs.Node.{to_send, packet_for, after_sending}
 use Rattle.world_defs.specs.Client.{begun, sent_by}

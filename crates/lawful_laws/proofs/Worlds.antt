@@ -6,22 +6,22 @@ use Rattle.net_defs.proofs.Ends.{both}
 use Rattle.net_defs.specs.declared.vertex.End.{End}
 use Rattle.net_defs.specs.Network.{Network}
 use Rattle.net_defs.specs.Route.{host_port}
-use Rattle.cable_history.specs.History.{CableHistory, IsHistory, fabric_at, may_plug, with_plugged}
-use Rattle.cable_history.specs.Crossed.{life_channels, is_standing, pulled_at}
-use Rattle.cable_history.specs.Later.{IsLater}
-use Rattle.cable_history.proofs.ForLife.{leaving_has_its_end}
-use Rattle.cable_history.proofs.Later.{kept-pull, kept-plug}
-use Rattle.cable_history.proofs.Left.{standing-low, standing-before, unplugged-old, plugged-pull, plugged-plug}
-use Rattle.cable_history.proofs.Now.{now_is_fabric}
+use Rattle.world_defs.specs.History.{CableHistory, IsHistory, fabric_at, may_plug, with_plugged}
+use Rattle.world_defs.specs.Crossed.{life_channels, is_standing, pulled_at}
+use Rattle.world_defs.specs.Later.{IsLater}
+use Rattle.world_defs.proofs.ForLife.{leaving_has_its_end}
+use Rattle.world_defs.proofs.CablesLater.{kept-pull, kept-plug}
+use Rattle.world_defs.proofs.Left.{standing-low, standing-before, unplugged-old, plugged-pull, plugged-plug}
+use Rattle.world_defs.proofs.Now.{now_is_fabric}
 use Rattle.packet_defs.specs.declared.kind.Kind.{Kind}
 use Rattle.packet_defs.specs.Packet.{front_turn, stripped, packet_of}
 use Rattle.packet_defs.specs.Host.{decode}
 use Rattle.packet_defs.proofs.Packets.{packet_of-stripped}
-use Rattle.link_defs.specs.declared.moved.Course.TheVariants.{Enters}
-use Rattle.link_defs.specs.Kinds.{is_gm}
-use Rattle.link_defs.specs.Links.{Held, Caught, LinkState, packet_in}
-use Rattle.link_defs.proofs.KindsKept.{gm-is}
-use Rattle.link_defs.specs.Advance.{course}
+use Rattle.world_defs.specs.declared.moved.Course.TheVariants.{Enters}
+use Rattle.world_defs.specs.Kinds.{is_gm}
+use Rattle.world_defs.specs.Links.{Held, Caught, LinkState, packet_in}
+use Rattle.world_defs.proofs.KindsKept.{gm-is}
+use Rattle.world_defs.specs.Advance.{course}
 use Rattle.world_defs.specs.declared.event.Event.{Event}
 use Rattle.world_defs.specs.declared.effect.Effect.{Effect}
 use Rattle.world_defs.specs.EightBits.{IsByteFault, IsByteEvent}

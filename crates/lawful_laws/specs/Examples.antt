@@ -4,9 +4,9 @@ use Rattle.std.specs.Prelude.{◌≡◌, ◌↔◌, pos, true, false, List, [], 
 use Rattle.net_defs.specs.Examples.{two_hosts, self_cabled}
 use Rattle.packet_defs.specs.declared.host_drop.HostDrop.TheVariants.{UnknownType}
 use Rattle.packet_defs.specs.Host.{body_of}
-use Rattle.link_defs.specs.Links.{packet_in}
-use Rattle.link_defs.specs.Hops.{is_stuck}
-use Rattle.link_defs.specs.Kinds.{unrouted}
+use Rattle.world_defs.specs.Links.{packet_in}
+use Rattle.world_defs.specs.Hops.{is_stuck}
+use Rattle.world_defs.specs.Kinds.{unrouted}
 use Rattle.world_defs.specs.declared.event.Event.{Event}
 use Rattle.world_defs.specs.declared.event.Event.TheVariants.{Ask, Inject, Advance, Reset, Begin, Send}
 use Rattle.world_defs.specs.World.{WorldState, new_world}

@@ -3,10 +3,10 @@
 use Rattle.std.specs.Prelude.{◌≡◌, ℤ, ℕ, ◌<◌, Bool, true, false, List, nat_lt}
 use Rattle.packet_defs.specs.declared.kind.Kind.TheVariants.{Mapping}
 use Rattle.packet_defs.specs.Packet.{packet_of}
-use Rattle.cable_history.specs.History.{was_plugged}
-use Rattle.link_defs.specs.Links.{Held}
-use Rattle.mapper_bodies.specs.Mapping.{MappingBody, mapping_bytes}
-use Rattle.mapper_bodies.specs.Mapping.MappingBody.{Part, PartAck}
+use Rattle.world_defs.specs.History.{was_plugged}
+use Rattle.world_defs.specs.Links.{Held}
+use Rattle.world_defs.specs.Mapping.{MappingBody, mapping_bytes}
+use Rattle.world_defs.specs.Mapping.MappingBody.{Part, PartAck}
 use Rattle.world_defs.specs.World.{WorldState, epoch_of}
 
 -- a part, or the acknowledgement of one

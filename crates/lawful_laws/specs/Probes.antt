@@ -6,9 +6,9 @@ use Rattle.packet_defs.specs.declared.kind.Kind.{Kind}
 use Rattle.packet_defs.specs.declared.kind.Kind.TheVariants.{Mapping, Gm}
 use Rattle.packet_defs.specs.Packet.{packet_of}
 use Rattle.packet_defs.specs.Host.{body_of}
-use Rattle.link_defs.specs.Kinds.{unrouted}
-use Rattle.mapper_bodies.specs.Mapping.{MappingBody, mapping_bytes, is_route, is_mapping, decode_mapping}
-use Rattle.mapper_bodies.specs.Mapping.MappingBody.{HostProbe, HostReply, Loopback, Part, PartAck}
+use Rattle.world_defs.specs.Kinds.{unrouted}
+use Rattle.world_defs.specs.Mapping.{MappingBody, mapping_bytes, is_route, is_mapping, decode_mapping}
+use Rattle.world_defs.specs.Mapping.MappingBody.{HostProbe, HostReply, Loopback, Part, PartAck}
 use Rattle.world_defs.specs.declared.event.Event.{Event}
 use Rattle.world_defs.specs.declared.event.Event.TheVariants.{Ask}
 use Rattle.world_defs.specs.Acts.{Act, Happens}

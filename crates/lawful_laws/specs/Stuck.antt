@@ -2,8 +2,8 @@
 -- greatest number can go on.
 use Rattle.std.specs.Prelude.{◌≡◌, true, false}
 use Rattle.net_defs.specs.Network.{Network}
-use Rattle.link_defs.specs.Links.{is_idle}
-use Rattle.link_defs.specs.Hops.{is_stuck}
+use Rattle.world_defs.specs.Links.{is_idle}
+use Rattle.world_defs.specs.Hops.{is_stuck}
 use Rattle.world_defs.specs.World.{WorldState}
 use Rattle.world_defs.specs.Traffic.{IsLawfulTraffic}
 use Rattle.world_defs.specs.Logs.{drain, clear}

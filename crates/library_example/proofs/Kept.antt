@@ -12,8 +12,8 @@ use Rattle.map_defs.specs.Routing.{AreRoutesOf}
 use Rattle.map_defs.specs.Sameness.{IsMapOfPart}
 use Rattle.map_laws.proofs.Connected.{quotient_is_connected}
 use Rattle.map_laws.proofs.Size.{right_map_is_no_larger}
-use Rattle.cable_history.specs.History.{fabric_at}
-use Rattle.cable_history.proofs.Now.{last_is_now}
+use Rattle.world_defs.specs.History.{fabric_at}
+use Rattle.world_defs.proofs.Now.{last_is_now}
 use Rattle.world_defs.specs.World.{WorldState, fabric_of, host_count}
 use Rattle.route_install.specs.Installing.{AreHosts}
 use Rattle.adopted_routes.specs.Adopting.{IsAdoptable, is_among}

@@ -9,8 +9,8 @@
 #![tactic(auto)]
 
 ghost use Rattle.std.specs.Prelude.{◌≡◌, ◌≤◌, length, true, IfOk, OnOk};
-ghost use Rattle.cable_history.specs.History.{fabric_at};
-ghost use Rattle.link_defs.specs.Links.{is_idle};
+ghost use Rattle.world_defs.specs.History.{fabric_at};
+ghost use Rattle.world_defs.specs.Links.{is_idle};
 ghost use Rattle.world_defs.specs.World.{fabric_of, host_count};
 ghost use Rattle.fab_world.specs.Events.{IsGiven};
 ghost use Rattle.route_making.specs.Kept.{IsKeptMap};

@@ -8,19 +8,19 @@ use Rattle.net_defs.specs.declared.vertex.End.{End}
 use Rattle.net_defs.specs.Network.{Network, IsFabric, far}
 use Rattle.net_defs.specs.Route.{exit_at, turned, entered_after, place, host_port, IsEntered, IsPlaceOf}
 use Rattle.net_defs.proofs.Places.{far-there, place_at-there}
-use Rattle.link_defs.specs.declared.moved.Course.{Course}
-use Rattle.link_defs.specs.declared.moved.Course.TheVariants.{Arrives, Enters, Drops}
-use Rattle.link_defs.specs.declared.moved.Moved.{Moved}
-use Rattle.link_defs.specs.declared.moved.Moved.TheVariants.{To, AtHost, Dropped, Blocked, Empty}
+use Rattle.world_defs.specs.declared.moved.Course.{Course}
+use Rattle.world_defs.specs.declared.moved.Course.TheVariants.{Arrives, Enters, Drops}
+use Rattle.world_defs.specs.declared.moved.Moved.{Moved}
+use Rattle.world_defs.specs.declared.moved.Moved.TheVariants.{To, AtHost, Dropped, Blocked, Empty}
 use Rattle.packet_defs.specs.Packet.{stripped, packet_of}
-use Rattle.cable_history.specs.History.{CableHistory, fabric_now}
-use Rattle.cable_history.specs.Crossed.{life_channels, leaving}
-use Rattle.link_defs.specs.Links.{Held, LinkState, emptied, bare_links, put}
-use Rattle.link_defs.specs.Advance.{course, advance}
-use Rattle.link_defs.specs.Lone.{lone, lone_after, lone_place, ended_place}
+use Rattle.world_defs.specs.History.{CableHistory, fabric_now}
+use Rattle.world_defs.specs.Crossed.{life_channels, leaving}
+use Rattle.world_defs.specs.Links.{Held, LinkState, emptied, bare_links, put}
+use Rattle.world_defs.specs.Advance.{course, advance}
+use Rattle.world_defs.specs.Lone.{lone, lone_after, lone_place, ended_place}
 use Rattle.net_defs.specs.Turn.{IsTurn}
 use Rattle.packet_defs.specs.declared.kind.Kind.TheVariants.{Mapping}
-use Rattle.link_defs.proofs.LonePackets.{lone-emptied, get-empty, lone-advance, lone-place}
+use Rattle.world_defs.proofs.LonePackets.{lone-emptied, get-empty, lone-advance, lone-place}
 use Rattle.link_model.specs.Alone.{wire_of, wire_in, left_at, IsAlone}
 use Rattle.link_model.proofs.Stepping.{course-below}
 

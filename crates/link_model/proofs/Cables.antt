@@ -4,12 +4,12 @@ use Rattle.std.specs.Option.{option_map}
 use Rattle.std.proofs.lemmas.Bool.Decides.{nat_tests}
 use Rattle.net_defs.specs.declared.vertex.End.{End}
 use Rattle.net_defs.specs.Building.{cable_refusal}
-use Rattle.cable_history.specs.History.{CableHistory, fabric_now, may_plug, with_plugged}
-use Rattle.cable_history.specs.Crossed.{leaving, pulled_at, pulled_with}
-use Rattle.cable_history.proofs.ForLife.{leaving_has_its_end}
-use Rattle.link_defs.specs.Links.{LinkState}
-use Rattle.link_defs.specs.Fault.{pull, pull_by, plug, without_cable}
-use Rattle.link_defs.specs.Shape.{IsLinks}
+use Rattle.world_defs.specs.History.{CableHistory, fabric_now, may_plug, with_plugged}
+use Rattle.world_defs.specs.Crossed.{leaving, pulled_at, pulled_with}
+use Rattle.world_defs.proofs.ForLife.{leaving_has_its_end}
+use Rattle.world_defs.specs.Links.{LinkState}
+use Rattle.world_defs.specs.Fault.{pull, pull_by, plug, without_cable}
+use Rattle.world_defs.specs.Shape.{IsLinks}
 
 -- ---- a pull
 -- the links without the cable of this number, the cables after it being these

@@ -6,7 +6,7 @@ use Rattle.std.proofs.lemmas.Bool.Decides.{Decides-eqb}
 use native.Mathlib.Decide.{dec_lt}
 use Rattle.std.proofs.lemmas.List.{get_or-set_same, get_or-set_other}
 use Rattle.std.proofs.Math.ListN.{length-set, get_or-eq_default}
-use Rattle.link_defs.specs.Links.{Held}
+use Rattle.world_defs.specs.Links.{Held}
 use Rattle.number_marks.specs.Marks.{mark_at, IsWritten, IsNextMark}
 use Rattle.link_model.proofs.Counting.{count-put, count-take, none-counted, none-full_count}
 use Rattle.link_model.specs.FullSlots.{full_of, full_count, full_from, IsLone, IsIndexed}

@@ -7,15 +7,15 @@ use Rattle.std.specs.Ordering.{nat_cmp, is_le}
 use Rattle.std.specs.BTreeMap.Range.{range_contains}
 use Rattle.std.specs.declared.ops.Bound.TheVariants.{Included, Unbounded}
 use Rattle.std.specs.declared.cmp.Ordering.TheVariants.{Less, Equal, Greater}
-use Rattle.link_defs.specs.Step.{Replay}
-use Rattle.link_defs.proofs.Shapes.{stepped-links}
+use Rattle.world_defs.specs.LinkStep.{Replay}
+use Rattle.world_defs.proofs.Shapes.{stepped-links}
 use Rattle.std.proofs.lemmas.Bool.Decides.{nat_tests, Decides-eqb}
 use Rattle.net_defs.proofs.Distinct.{all-weaker, all-push}
-use Rattle.link_defs.specs.declared.replayed.Replayed.{Replayed}
-use Rattle.link_defs.specs.declared.replayed.Replayed.TheVariants.{Back, Busy}
-use Rattle.link_defs.specs.Links.{Held, Caught, LinkState, packet_in}
-use Rattle.link_defs.specs.Fault.{is_used_up, with_caught, replay, replay_of, released}
-use Rattle.link_defs.specs.Shape.{Rise, IsLinks}
+use Rattle.world_defs.specs.declared.replayed.Replayed.{Replayed}
+use Rattle.world_defs.specs.declared.replayed.Replayed.TheVariants.{Back, Busy}
+use Rattle.world_defs.specs.Links.{Held, Caught, LinkState, packet_in}
+use Rattle.world_defs.specs.Fault.{is_used_up, with_caught, replay, replay_of, released}
+use Rattle.world_defs.specs.Shape.{Rise, IsLinks}
 
 -- what holds of all entries holds of the one that is found
 pub found-all : (P : ℕ × Caught → Type 0) (test : ℕ → Bool) (es : List (ℕ × Caught)) (x : Caught) → AllByRecursion P es → lookup test es ≡ Some x → (n : ℕ) × P (n, x)

@@ -2,7 +2,7 @@
 use Rattle.std.proofs.Common.{◌≡◌, ◌<◌, ◌≤◌, ◌+◌, ◌-◌, ℕ, true, false, length, Some, None, is_some, arith}
 use native.Mathlib.Decide.{dec_lt}
 use Rattle.std.proofs.Math.ListN.{get_or-eq_default}
-use Rattle.link_defs.specs.Links.{LinkState, packet_in}
+use Rattle.world_defs.specs.Links.{LinkState, packet_in}
 use Rattle.link_model.proofs.Fullness.{find-found, find-missed, none-there}
 use Rattle.link_model.specs.Full.{next_full, IsNextFull}
 

@@ -6,18 +6,18 @@ use Rattle.std.proofs.lemmas.List.{length-take, get_or-set_same, get_or-set_othe
 use Rattle.std.proofs.lemmas.Bool.Decides.{Decides-eqb}
 use Rattle.packet_defs.specs.RouteByte.{is_route_byte}
 use Rattle.packet_defs.specs.Packet.{head, stripped}
-use Rattle.link_defs.specs.declared.moved.Course.{Course}
-use Rattle.link_defs.specs.declared.moved.Course.TheVariants.{Arrives, Enters, Drops}
-use Rattle.link_defs.specs.declared.moved.Moved.{Moved}
-use Rattle.link_defs.specs.declared.moved.Moved.TheVariants.{To, AtHost, Dropped, Blocked, Empty}
-use Rattle.cable_history.specs.History.{CableHistory}
-use Rattle.cable_history.specs.Crossed.{life_channels, life_head}
-use Rattle.link_defs.specs.Shape.{IsLinks}
-use Rattle.link_defs.specs.Links.{Held, LinkState, packet_in, with_packet, emptied}
-use Rattle.link_defs.specs.Advance.{course, entered, gone_on, advance_of, advance}
-use Rattle.link_defs.specs.Hops.{hops_left}
-use Rattle.link_defs.proofs.HopsLeft.{hops_left-stripped, course_into-enters}
-use Rattle.link_defs.proofs.Slots.{set-same}
+use Rattle.world_defs.specs.declared.moved.Course.{Course}
+use Rattle.world_defs.specs.declared.moved.Course.TheVariants.{Arrives, Enters, Drops}
+use Rattle.world_defs.specs.declared.moved.Moved.{Moved}
+use Rattle.world_defs.specs.declared.moved.Moved.TheVariants.{To, AtHost, Dropped, Blocked, Empty}
+use Rattle.world_defs.specs.History.{CableHistory}
+use Rattle.world_defs.specs.Crossed.{life_channels, life_head}
+use Rattle.world_defs.specs.Shape.{IsLinks}
+use Rattle.world_defs.specs.Links.{Held, LinkState, packet_in, with_packet, emptied}
+use Rattle.world_defs.specs.Advance.{course, entered, gone_on, advance_of, advance}
+use Rattle.world_defs.specs.Hops.{hops_left}
+use Rattle.world_defs.proofs.HopsLeft.{hops_left-stripped, course_into-enters}
+use Rattle.world_defs.proofs.Slots.{set-same}
 use Rattle.link_model.specs.FullSlots.{IsLone}
 use Rattle.link_model.proofs.Counting.{set-set, set-back}
 use Rattle.link_model.specs.Hop.{IsSentAlong, IsRun}

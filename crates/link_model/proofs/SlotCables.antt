@@ -3,7 +3,7 @@ use Rattle.std.proofs.Common.{◌≡◌, ◌≤◌, ◌+◌, ◌-◌, ◌*◌, �
 use Rattle.std.specs.Int.{bit_at}
 use Rattle.std.specs.List.{slice_index}
 use Rattle.std.proofs.Math.ListN.{length-append}
-use Rattle.link_defs.specs.Links.{Held}
+use Rattle.world_defs.specs.Links.{Held}
 use Rattle.number_marks.specs.Marks.{mark_at}
 use Rattle.link_model.specs.FullSlots.{full_of, full_count, IsIndexed}
 

@@ -2,28 +2,27 @@
 use Rattle.std.proofs.Common.{◌≡◌, ◌<◌, ℕ, Bool, true, false, not, ◌&&◌, List, length, Option, Some, None, refl, sym, ap, ◌∙◌, subst, if◌then◌else◌}
 use Rattle.std.specs.Option.{option_map, IfSome}
 use Rattle.std.specs.List.{AllByRecursion}
-use Rattle.link_defs.specs.Shape.{IsLinks}
+use Rattle.world_defs.specs.Shape.{IsLinks}
 use Rattle.net_defs.specs.declared.vertex.Vertex.{Vertex}
 use Rattle.net_defs.specs.declared.vertex.Vertex.TheVariants.{Host, Switch}
 use Rattle.net_defs.specs.declared.vertex.End.{End}
 use Rattle.net_defs.specs.Network.{ports_of}
 use Rattle.packet_defs.specs.Packet.{stripped}
 use Rattle.packet_defs.specs.Burst.{flipped, may_flip}
-use Rattle.link_defs.specs.declared.turned.Turned.{Turned}
-use Rattle.link_defs.specs.declared.turned.Turned.TheVariants.{Out, OutOfRange, NotRoute}
-use Rattle.link_defs.specs.declared.moved.Course.{Course}
-use Rattle.link_defs.specs.declared.moved.Course.TheVariants.{Enters}
-use Rattle.link_defs.specs.declared.moved.Moved.TheVariants.{To}
-use Rattle.cable_history.specs.History.{CableHistory, fabric_now}
-use Rattle.cable_history.specs.Crossed.{life_channels, life_head, leaving, is_new}
-use Rattle.link_defs.specs.Switch.{aim, after_aim}
-use Rattle.link_defs.specs.Links.{Held, LinkState, packet_in, with_packet, emptied}
-use Rattle.link_defs.specs.Advance.{course_by_channel, course_out, course_at, course_into, course, entered, gone_on, advance_of, advance}
-use Rattle.link_defs.specs.Fault.{flip, flip_of}
-use Rattle.cable_history.proofs.ForLife.{leaving_has_its_end}
-use Rattle.link_defs.specs.declared.moved.Why.TheVariants.{NewCable}
-use Rattle.link_defs.specs.declared.moved.Course.TheVariants.{Drops}
-use Rattle.link_defs.specs.Kinds.{is_mapping}
+use Rattle.world_defs.specs.declared.turned.Turned.{Turned}
+use Rattle.world_defs.specs.declared.turned.Turned.TheVariants.{Out, OutOfRange, NotRoute}
+use Rattle.world_defs.specs.declared.moved.Course.{Course}
+use Rattle.world_defs.specs.declared.moved.Course.TheVariants.{Enters, Drops}
+use Rattle.world_defs.specs.declared.moved.Moved.TheVariants.{To}
+use Rattle.world_defs.specs.History.{CableHistory, fabric_now}
+use Rattle.world_defs.specs.Crossed.{life_channels, life_head, leaving, is_new}
+use Rattle.world_defs.specs.Switch.{aim, after_aim}
+use Rattle.world_defs.specs.Links.{Held, LinkState, packet_in, with_packet, emptied}
+use Rattle.world_defs.specs.Advance.{course_by_channel, course_out, course_at, course_into, course, entered, gone_on, advance_of, advance}
+use Rattle.world_defs.specs.Fault.{flip, flip_of}
+use Rattle.world_defs.proofs.ForLife.{leaving_has_its_end}
+use Rattle.world_defs.specs.declared.moved.Why.TheVariants.{NewCable}
+use Rattle.world_defs.specs.Kinds.{is_mapping}
 use Rattle.link_model.proofs.Counting.{set-there}
 
 by_channel : (h : CableHistory) (wire : List ℕ) (e : End) (next : ℕ) (o : Option ℕ) → leaving h e ≡ o → course_by_channel h wire o ≡ Enters next → next < life_channels h

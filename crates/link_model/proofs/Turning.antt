@@ -10,17 +10,17 @@ use Rattle.net_defs.specs.Network.{ports_of}
 use Rattle.net_defs.specs.Route.{exit_at, leaving_port}
 use Rattle.packet_defs.specs.Packet.{head, front_turn}
 use Rattle.packet_defs.specs.RouteByte.{turn_of}
-use Rattle.link_defs.specs.declared.moved.Course.{Course}
-use Rattle.link_defs.specs.declared.moved.Course.TheVariants.{Arrives, Enters, Drops}
-use Rattle.cable_history.specs.History.{CableHistory, fabric_now}
-use Rattle.cable_history.specs.Crossed.{life_channels, life_head, leaving, is_new}
-use Rattle.cable_history.proofs.ForLife.{leaving_has_its_end}
-use Rattle.link_defs.specs.declared.moved.Why.TheVariants.{NewCable}
-use Rattle.link_defs.specs.Kinds.{is_mapping}
-use Rattle.link_defs.specs.Switch.{aim_of, out_by}
-use Rattle.link_defs.specs.Links.{Held, LinkState}
-use Rattle.link_defs.specs.Advance.{course_by_channel, course_out, course_at, course_into, course, gone_on, advance_of}
-use Rattle.link_defs.proofs.HopsLeft.{course_into-enters}
+use Rattle.world_defs.specs.declared.moved.Course.{Course}
+use Rattle.world_defs.specs.declared.moved.Course.TheVariants.{Arrives, Enters, Drops}
+use Rattle.world_defs.specs.History.{CableHistory, fabric_now}
+use Rattle.world_defs.specs.Crossed.{life_channels, life_head, leaving, is_new}
+use Rattle.world_defs.proofs.ForLife.{leaving_has_its_end}
+use Rattle.world_defs.specs.declared.moved.Why.TheVariants.{NewCable}
+use Rattle.world_defs.specs.Kinds.{is_mapping}
+use Rattle.world_defs.specs.Switch.{aim_of, out_by}
+use Rattle.world_defs.specs.Links.{Held, LinkState}
+use Rattle.world_defs.specs.Advance.{course_by_channel, course_out, course_at, course_into, course, gone_on, advance_of}
+use Rattle.world_defs.proofs.HopsLeft.{course_into-enters}
 use Rattle.fabric_wiring.specs.Hops.{turned_from, next_channel}
 use Rattle.link_model.specs.Hop.{entered_by, is_hop, passing}
 

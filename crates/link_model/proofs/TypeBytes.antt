@@ -4,7 +4,7 @@ use Rattle.std.specs.List.{prefix_len}
 use native.Mathlib.Decide.{dec_lt}
 use Rattle.packet_defs.specs.declared.kind.Kind.TheVariants.{Mapping, Gm}
 use Rattle.packet_defs.specs.Host.{kind_of}
-use Rattle.link_defs.specs.Kinds.{is_of_mapping}
+use Rattle.world_defs.specs.Kinds.{is_of_mapping}
 
 -- a type number is that of mapping where it is 5
 pub mapping-number : (n : ℕ) → nat_eq n 5 ≡ is_of_mapping (kind_of n)

@@ -2,13 +2,13 @@
 use Rattle.std.specs.Prelude.{◌≡◌, ℕ, List, [], Option, Some, None, if◌then◌else◌}
 use Rattle.net_defs.specs.declared.place.Place.{Place}
 use Rattle.net_defs.specs.declared.place.Place.TheVariants.{Host as AtHostPlace, Nothing as Stuck}
-use Rattle.cable_history.specs.History.{CableHistory}
+use Rattle.world_defs.specs.History.{CableHistory}
 use Rattle.packet_defs.specs.Packet.{head}
 use Rattle.packet_defs.specs.Host.{has_route}
-use Rattle.link_defs.specs.declared.moved.Moved.{Moved}
-use Rattle.link_defs.specs.declared.moved.Moved.TheVariants.{To, AtHost, Dropped, Blocked, Empty}
-use Rattle.link_defs.specs.Links.{Held, LinkState, packet_in}
-use Rattle.link_defs.specs.Lone.{lone, dropped_place}
+use Rattle.world_defs.specs.declared.moved.Moved.{Moved}
+use Rattle.world_defs.specs.declared.moved.Moved.TheVariants.{To, AtHost, Dropped, Blocked, Empty}
+use Rattle.world_defs.specs.Links.{Held, LinkState, packet_in}
+use Rattle.world_defs.specs.Lone.{lone, dropped_place}
 
 -- the bytes of what a channel holds; none where it is empty
 abbrev pub wire_of : Option Held → List ℕ

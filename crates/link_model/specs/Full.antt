@@ -1,6 +1,6 @@
 -- Which channels of the links are full.
 use Rattle.std.specs.Prelude.{◌≡◌, ℕ, ◌<◌, ◌≤◌, length, Option, None, true, is_some}
-use Rattle.link_defs.specs.Links.{LinkState, packet_in}
+use Rattle.world_defs.specs.Links.{LinkState, packet_in}
 use Rattle.link_model.specs.FullSlots.{full_from}
 
 -- the least channel that isn't below a number and holds a packet

@@ -2,7 +2,7 @@
 use Rattle.std.specs.Prelude.{◌≡◌, ◌≢◌, ℕ, ◌+◌, ◌-◌, ◌*◌, ◌^◌, ◌<◌, ◌≤◌, true, List, [], ◌∷◌, length, slice_index_or}
 use Rattle.std.specs.Prelude.{find, Option, Some, None, is_some}
 use Rattle.std.specs.List.{range_with_len}
-use Rattle.link_defs.specs.Links.{Held}
+use Rattle.world_defs.specs.Links.{Held}
 use Rattle.number_marks.specs.Marks.{mark_at}
 
 -- a channel counts as one where it is full

@@ -1,15 +1,15 @@
 -- A hop: an advance of a packet that another channel takes, or that waits for one.
 use Rattle.std.specs.Prelude.{◌≡◌, ℕ, ◌+◌, Bool, true, false, List, Option, Some, None, ◌&&◌, not, if◌then◌else◌}
-use Rattle.cable_history.specs.History.{CableHistory}
-use Rattle.cable_history.specs.Crossed.{is_new}
-use Rattle.link_defs.specs.Kinds.{is_mapping}
+use Rattle.world_defs.specs.History.{CableHistory}
+use Rattle.world_defs.specs.Crossed.{is_new}
+use Rattle.world_defs.specs.Kinds.{is_mapping}
 use Rattle.packet_defs.specs.Packet.{stripped}
-use Rattle.link_defs.specs.declared.moved.Course.{Course}
-use Rattle.link_defs.specs.declared.moved.Course.TheVariants.{Arrives, Enters, Drops}
-use Rattle.link_defs.specs.declared.moved.Moved.{Moved as WentTo}
-use Rattle.link_defs.specs.declared.moved.Moved.TheVariants.{To, Blocked as StaysFor}
-use Rattle.link_defs.specs.Links.{LinkState}
-use Rattle.link_defs.specs.Advance.{course, advance}
+use Rattle.world_defs.specs.declared.moved.Course.{Course}
+use Rattle.world_defs.specs.declared.moved.Course.TheVariants.{Arrives, Enters, Drops}
+use Rattle.world_defs.specs.declared.moved.Moved.{Moved as WentTo}
+use Rattle.world_defs.specs.declared.moved.Moved.TheVariants.{To, Blocked as StaysFor}
+use Rattle.world_defs.specs.Links.{LinkState}
+use Rattle.world_defs.specs.Advance.{course, advance}
 use Rattle.link_model.specs.declared.hop.Hop.{Hop}
 use Rattle.link_model.specs.declared.hop.Hop.TheVariants.{Moved, Blocked, Untried}
 

@@ -1,7 +1,7 @@
 -- The state of the link machine by its parts.
 use Rattle.std.specs.Prelude.{ℕ, List, Option}
-use Rattle.cable_history.specs.History.{CableHistory}
-use Rattle.link_defs.specs.Links.{Held, Caught, LinkState}
+use Rattle.world_defs.specs.History.{CableHistory}
+use Rattle.world_defs.specs.Links.{Held, Caught, LinkState}
 
 -- the links by their parts
 abbrev pub state : CableHistory → ℕ → List (Option Held) → List (ℕ × Caught) → ℕ → LinkState

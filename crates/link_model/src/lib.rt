@@ -2,7 +2,7 @@
 //! delay and flip packets.
 //!
 //! It reads no packet's payload and knows no script. Each call is a step of the link machine: `specs/Links.antt`,
-//! `specs/Advance.antt` and `specs/Fault.antt` of `link_defs` say what it answers and what stays;
+//! `specs/Advance.antt` and `specs/Fault.antt` of `world_defs` say what it answers and what stays;
 //! `specs/FullSlots.antt` says what the index of full channels holds.
 //!
 //! ```text
@@ -29,7 +29,7 @@ mod slots;
 mod walking;
 
 pub use hop::{Hop, Run};
-pub use link_defs::{Moved, Replayed, Turned, Why};
+pub use world_defs::{Moved, Replayed, Turned, Why};
 pub use links::{Links, Occupied};
 pub(crate) use slots::{Slot, Slots};
 pub use walking::walk_alone;

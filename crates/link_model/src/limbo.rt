@@ -3,7 +3,7 @@
 ghost use Rattle.std.specs.Prelude.{◌≡◌, ◌<◌, ◌++◌, ◌∷◌, [], nat_eq, nat_le, find, option_map, OnOk, OnErr, IfErr};
 ghost use Rattle.std.specs.List.{AllByRecursion};
 ghost use Rattle.std.specs.Map.{lookup, remove_entry};
-ghost use Rattle.link_defs.specs.Fault.{without_cable};
+ghost use Rattle.world_defs.specs.Fault.{without_cable};
 
 use crate::Slot;
 use std::alloc::Global;
@@ -18,7 +18,7 @@ pub(crate) struct Kept {
 }
 
 impl Model for Kept {
-    ghost use Rattle.link_defs.specs.Links.{Caught};
+    ghost use Rattle.world_defs.specs.Links.{Caught};
 
     ghost Value = { Caught };
 
@@ -42,7 +42,7 @@ pub(crate) struct Limbo {
 
 impl Model for Limbo {
     ghost use Rattle.std.specs.Prelude.{List, ℕ};
-    ghost use Rattle.link_defs.specs.Links.{Caught};
+    ghost use Rattle.world_defs.specs.Links.{Caught};
 
     ghost Value = { List (ℕ × Caught) };
 

@@ -3,10 +3,10 @@
 ghost use Rattle.std.specs.Prelude.{◌≡◌, ◌<◌, ◌≤◌, ℕ, length, Some, None, option_map, option_copied, is_ok, IfOk};
 ghost use Rattle.std.specs.Prelude.{◌≢◌, true, IfErr, IfSome, IfNone};
 ghost use Rattle.net_defs.specs.Network.{IsFabric, has_port};
-ghost use Rattle.cable_history.specs.History.{fabric_now, IsHistory};
-ghost use Rattle.cable_history.specs.Crossed.{leaving, life_channels, life_tail, life_head};
-ghost use Rattle.link_defs.specs.Links.{empty_links, packet_in, is_idle, put};
-ghost use Rattle.link_defs.specs.Fault.{next_limbo};
+ghost use Rattle.world_defs.specs.History.{fabric_now, IsHistory};
+ghost use Rattle.world_defs.specs.Crossed.{leaving, life_channels, life_tail, life_head};
+ghost use Rattle.world_defs.specs.Links.{empty_links, packet_in, is_idle, put};
+ghost use Rattle.world_defs.specs.Fault.{next_limbo};
 ghost use Rattle.link_model.specs.FullSlots.{full_count, IsLone};
 ghost use Rattle.link_model.specs.Full.{next_full, IsNextFull};
 
@@ -41,8 +41,8 @@ pub struct Links {
 }
 
 impl Model for Links {
-    ghost use Rattle.link_defs.specs.Links.{LinkState};
-    ghost use Rattle.link_defs.specs.Shape.{IsLinks};
+    ghost use Rattle.world_defs.specs.Links.{LinkState};
+    ghost use Rattle.world_defs.specs.Shape.{IsLinks};
     ghost use Rattle.link_model.specs.State.{state};
 
     ghost Value = { LinkState };

@@ -6,7 +6,7 @@ ghost use Rattle.std.specs.Prelude.{option_copied};
 ghost use Rattle.std.specs.Prelude.{IfOk, IfSome, IfNone, OnOk, OnErr, false, ◌≢◌};
 ghost use Rattle.std.specs.List.{list_all};
 ghost use Rattle.packet_defs.specs.Burst.{flipped, may_flip};
-ghost use Rattle.link_defs.specs.Links.{Held};
+ghost use Rattle.world_defs.specs.Links.{Held};
 ghost use Rattle.link_model.specs.FullSlots.{full_count, full_from, IsLone};
 
 use myri_packet::Packet;
@@ -24,7 +24,7 @@ pub struct Slot {
 }
 
 impl Model for Slot {
-    ghost use Rattle.link_defs.specs.Links.{Held};
+    ghost use Rattle.world_defs.specs.Links.{Held};
 
     ghost Value = { Held };
 
@@ -129,7 +129,7 @@ pub struct Slots {
 
 impl Model for Slots {
     ghost use Rattle.std.specs.Prelude.{List, Option};
-    ghost use Rattle.link_defs.specs.Links.{Held};
+    ghost use Rattle.world_defs.specs.Links.{Held};
     ghost use Rattle.link_model.specs.FullSlots.{IsIndexed};
 
     ghost Value = { List (Option Held) };

@@ -3,13 +3,13 @@
 ghost use Rattle.std.specs.Prelude.{◌≡◌, ◌<◌, ◌≤◌, ◌+◌, length, All, IfOk};
 ghost use Rattle.net_defs.specs.Turn.{IsTurn};
 ghost use Rattle.net_defs.specs.Route.{place, place_at_vertex, IsPlaceOf};
-ghost use Rattle.cable_history.specs.History.{fabric_now};
-ghost use Rattle.link_defs.specs.Links.{bare_links};
-ghost use Rattle.link_defs.specs.Lone.{lone_place};
+ghost use Rattle.world_defs.specs.History.{fabric_now};
+ghost use Rattle.world_defs.specs.Links.{bare_links};
+ghost use Rattle.world_defs.specs.Lone.{lone_place};
 ghost use Rattle.link_model.specs.Alone.{wire_in, left_at, IsAlone};
 
 use crate::links::Links;
-use link_defs::{Moved, Why};
+use world_defs::{Moved, Why};
 use myri_packet::{Packet, encode, has_route};
 use net_defs::{End, Place, Vertex};
 use packet_defs::Kind;

@@ -1,8 +1,8 @@
 -- A drain is its first pass and the drain after it, whatever bounds the passes; and what is part of the way along a drain or a clear.
 use Rattle.std.proofs.Common.{◌≡◌, ◌≢◌, ◌<◌, ◌+◌, ℕ, suc, Bool, true, false, List, [], ◌∷◌, ◌++◌, map, nat_eq, refl, sym, ◌∙◌, ap, subst, arith, true≢false, if◌then◌else◌}
 use Rattle.std.proofs.lemmas.Bool.Decides.{nat_tests}
-use Rattle.link_defs.specs.Hops.{total_hops, changes as moves}
-use Rattle.link_defs.specs.Advance.{advance}
+use Rattle.world_defs.specs.Hops.{total_hops, changes as moves}
+use Rattle.world_defs.specs.Advance.{advance}
 use Rattle.world_defs.specs.declared.event.Event.{Event}
 use Rattle.world_defs.specs.declared.event.Event.TheVariants.{Advance}
 use Rattle.world_defs.specs.declared.effect.Effect.{Effect}

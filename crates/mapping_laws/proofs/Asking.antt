@@ -11,9 +11,9 @@ use Rattle.net_defs.specs.Turn.{is_turn, IsTurn}
 use Rattle.journal_defs.specs.declared.entry.Entry.{Entry}
 use Rattle.map_laws.specs.Laws.{IsTold, TellsTruth}
 use Rattle.map_laws.proofs.Existence.{told_journal_exists}
-use Rattle.cable_history.specs.History.{fabric_at}
-use Rattle.cable_history.proofs.Later.{pulled-later, later-past}
-use Rattle.cable_history.proofs.Now.{last_is_now, now_is_fabric}
+use Rattle.world_defs.specs.History.{fabric_at}
+use Rattle.world_defs.proofs.CablesLater.{pulled-later, later-past}
+use Rattle.world_defs.proofs.Now.{last_is_now, now_is_fabric}
 use Rattle.world_defs.specs.World.{WorldState, fabric_of}
 use Rattle.world_defs.specs.Log.{Log}
 use Rattle.world_defs.specs.Logs as log

@@ -9,8 +9,8 @@ use Rattle.net_defs.specs.Network.{Network}
 use Rattle.net_defs.specs.Route.{answer}
 use Rattle.net_defs.specs.Turn.{IsTurn}
 use Rattle.journal_defs.specs.Truth.{IsTrueJournal, IsTrueWhereFound}
-use Rattle.cable_history.specs.History.{fabric_at}
-use Rattle.cable_history.proofs.Later.{pulled-later, later-kept, later-past}
+use Rattle.world_defs.specs.History.{fabric_at}
+use Rattle.world_defs.proofs.CablesLater.{pulled-later, later-kept, later-past}
 use Rattle.world_defs.specs.World.{WorldState, last_count}
 use Rattle.ask_laws.specs.Premises.{CanAsk}
 use Rattle.ask_laws.specs.Kept.{IsAskKept}

@@ -5,8 +5,8 @@ use Rattle.std.proofs.lemmas.Bool.{and_parts}
 use Rattle.std.proofs.lemmas.Bool.Decides.{Decides-eqb}
 use Rattle.net_defs.specs.declared.route.Route.{Route}
 use Rattle.net_defs.specs.Network.{Network}
-use Rattle.cable_history.specs.History.{CableHistory, IsHistory, fabric_at}
-use Rattle.cable_history.proofs.Now.{last_is_now}
+use Rattle.world_defs.specs.History.{CableHistory, IsHistory, fabric_at}
+use Rattle.world_defs.proofs.Now.{last_is_now}
 use Rattle.world_defs.specs.Acts.{Happens, acted_all}
 use Rattle.world_defs.proofs.AdoptedEpochs.{may-from}
 use Rattle.world_defs.proofs.ActsKept.{CablesKept}

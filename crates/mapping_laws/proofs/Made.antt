@@ -29,9 +29,9 @@ use Rattle.map_laws.proofs.Connected.{quotient_is_connected}
 use Rattle.map_laws.proofs.Marked.{marked_map_is_map}
 use Rattle.map_laws.proofs.Ruled.{quotient_is_map}
 use Rattle.world_defs.specs.declared.fault.Fault.{Fault}
-use Rattle.cable_history.specs.declared.wire.Wire.{Wire}
-use Rattle.cable_history.specs.History.{IsDated, fabric_at}
-use Rattle.cable_history.proofs.Now.{last_is_now, now_is_fabric}
+use Rattle.world_defs.specs.declared.wire.Wire.{Wire}
+use Rattle.world_defs.specs.History.{IsDated, fabric_at}
+use Rattle.world_defs.proofs.Now.{last_is_now, now_is_fabric}
 use Rattle.journal_defs.specs.Truth.{IsTrueJournal, IsTrueWhereFound}
 use Rattle.world_defs.specs.World.{WorldState, fabric_of}
 use Rattle.ask_laws.specs.Premises.{CanAsk}

@@ -5,7 +5,7 @@ use Rattle.net_defs.specs.Network.{Network, IsFabric}
 use Rattle.world_defs.specs.Acts.{Act, Happens, Plans, Adopts, acted, acted_all}
 use Rattle.world_defs.proofs.Cables.{new-cables}
 use Rattle.journal_defs.specs.declared.entry.Entry.{Entry}
-use Rattle.link_defs.specs.Links.{is_idle}
+use Rattle.world_defs.specs.Links.{is_idle}
 use Rattle.world_defs.specs.declared.event.Event.{Event}
 use Rattle.world_defs.specs.World.{WorldState}
 use Rattle.world_defs.specs.EightBits.{IsByteFault}

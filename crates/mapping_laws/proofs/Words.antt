@@ -1,6 +1,6 @@
 -- Wherever a map can be made there is a mapping: its journal has a map, and one of the words of a map holds.
 use Rattle.std.proofs.Common.{◌≡◌, ℕ, zero, suc, List, ◌⊎◌, inl, inr, refl, arith}
-use Rattle.cable_history.proofs.Now.{now_is_fabric}
+use Rattle.world_defs.proofs.Now.{now_is_fabric}
 use Rattle.journal_defs.specs.declared.entry.Entry.{Entry}
 use Rattle.journal_defs.specs.Growth.{IsEndedByDepth, IsEndedAtLimit, IsClosed}
 use Rattle.fabric_map.specs.Growing.{empty_map}

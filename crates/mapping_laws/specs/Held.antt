@@ -3,7 +3,7 @@ use Rattle.std.specs.Prelude.{◌≡◌, ℕ, ◌≤◌, List, Some}
 use Rattle.std.specs.List.{AllByRecursion}
 use Rattle.net_defs.specs.Network.{Network, IsFabric}
 use Rattle.net_defs.specs.declared.route.Route.{Route}
-use Rattle.cable_history.specs.History.{CableHistory, fabric_at}
+use Rattle.world_defs.specs.History.{CableHistory, fabric_at}
 use Rattle.map_defs.specs.NetMap.{IsMap, IsConnected}
 use Rattle.map_defs.specs.Sameness.{IsMapOfPart}
 use Rattle.map_laws.specs.RouteSets.{AreRightRoutes}

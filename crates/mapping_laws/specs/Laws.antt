@@ -1,8 +1,8 @@
 -- What holds of every mapping over the world of a fabric: whatever it found is there, and a map that it calls
 -- complete is right.
 use Rattle.std.specs.Prelude.{◌≡◌, ◌⊎◌, ℕ, ◌<◌, ◌≤◌, true, List}
-use Rattle.cable_history.specs.History.{IsHistory}
-use Rattle.link_defs.specs.Links.{is_idle}
+use Rattle.world_defs.specs.History.{IsHistory}
+use Rattle.world_defs.specs.Links.{is_idle}
 use Rattle.journal_defs.specs.declared.entry.Entry.{Entry}
 use Rattle.journal_defs.specs.Truth.{IsTrueJournal, IsTrueWhereFound}
 use Rattle.journal_defs.specs.Depth.{enough_depth}

@@ -3,7 +3,7 @@
 use Rattle.std.specs.Prelude.{◌≡◌, List}
 use Rattle.std.specs.List.{AllByRecursion}
 use Rattle.net_defs.specs.Network.{Network, IsFabric}
-use Rattle.cable_history.specs.History.{IsHistory, fabric_at}
+use Rattle.world_defs.specs.History.{IsHistory, fabric_at}
 use Rattle.world_defs.specs.EightBits.{HasByteFaults}
 use Rattle.world_laws.specs.Shape.{IsWorld}
 use Rattle.run_defs.specs.declared.command.Command.{Command}

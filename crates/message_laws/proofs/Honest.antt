@@ -9,10 +9,10 @@ use Rattle.packet_defs.specs.Crc.{crc}
 use Rattle.packet_defs.specs.Packet.{head_of, head}
 use Rattle.packet_defs.specs.Host.{kind_of, of_kind, body_of}
 use Rattle.packet_defs.proofs.Packets.{head-push}
-use Rattle.link_defs.specs.Links.{Held}
+use Rattle.world_defs.specs.Links.{Held}
 use Rattle.gm_defs.specs.declared.frame.GmBody.TheVariants.{Ack as Acknowledges}
 use Rattle.world_defs.specs.World.{WorldState}
-use Rattle.link_defs.specs.Kinds.{unrouted}
+use Rattle.world_defs.specs.Kinds.{unrouted}
 use Rattle.world_defs.specs.Traffic.{sent_on, IsHonest as IsHonestIn}
 use Rattle.table_laws.specs.Packets.{IsHonest}
 use Rattle.message_laws.specs.Says.{SaysTrue}

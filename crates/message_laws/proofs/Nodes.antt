@@ -17,8 +17,8 @@ use Rattle.gm_defs.specs.declared.frame.GmBody.TheVariants.{Frame}
 use Rattle.gm_defs.specs.Body.{message_limit, number_limit, part_in, frame_bytes, ack_bytes}
 use Rattle.gm_defs.specs.Fragment.{fragments, frame_of, piece_count, IsHonestFrame}
 use Rattle.gm_defs.specs.Connection.{key_of, ack_on, due, is_spent}
-use Rattle.mapper_bodies.specs.Mapping.{mapping_bytes}
-use Rattle.mapper_bodies.specs.Mapping.MappingBody.{HostProbe, HostReply, Loopback, Part, PartAck}
+use Rattle.world_defs.specs.Mapping.{mapping_bytes}
+use Rattle.world_defs.specs.Mapping.MappingBody.{HostProbe, HostReply, Loopback, Part, PartAck}
 use Rattle.gm_defs.specs.Port.{is_too_long}
 use Rattle.gm_defs.proofs.Choices.{then-some}
 use Rattle.world_defs.specs.declared.arrival.Arrival.{Arrival}

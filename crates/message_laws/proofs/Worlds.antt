@@ -4,7 +4,7 @@ use Rattle.std.specs.List.{AllByRecursion}
 use Rattle.std.proofs.lemmas.List.{length-replicate}
 use Rattle.net_defs.specs.Network.{Network, IsFabric}
 use Rattle.packet_defs.specs.declared.kind.Kind.TheVariants.{Gm}
-use Rattle.link_defs.specs.Links.{Held}
+use Rattle.world_defs.specs.Links.{Held}
 use Rattle.gm_defs.specs.declared.frame.ConnectionKey.{ConnectionKey}
 use Rattle.gm_defs.specs.declared.message.Message.{Message}
 use Rattle.world_defs.specs.declared.event.Event.{Event}

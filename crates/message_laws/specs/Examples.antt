@@ -6,7 +6,7 @@ use Rattle.gm_defs.specs.declared.message.Message.{Message}
 use Rattle.world_defs.specs.declared.event.Event.TheVariants.{Inject, Advance, Begin, Provide, Send}
 use Rattle.world_defs.specs.World.{WorldState, new_world, node_at, client_at}
 use Rattle.gm_defs.specs.Connection.{connection, ack_on}
-use Rattle.link_defs.specs.Kinds.{unrouted}
+use Rattle.world_defs.specs.Kinds.{unrouted}
 use Rattle.world_defs.specs.Traffic.{sent_on, got_on, sender_on, taken_on}
 use Rattle.world_defs.specs.Examples.{setup_routes}
 use Rattle.world_defs.specs.Acts.{Act, Happens, Adopts, acted_all, IsReached}
@@ -14,7 +14,7 @@ use Rattle.packet_defs.specs.declared.kind.Kind.{Kind}
 use Rattle.packet_defs.specs.declared.kind.Kind.TheVariants.{Gm}
 use Rattle.packet_defs.specs.declared.host_drop.HostDrop.{HostDrop}
 use Rattle.packet_defs.specs.Host.{body_of}
-use Rattle.link_defs.specs.Links.{packet_in}
+use Rattle.world_defs.specs.Links.{packet_in}
 use Rattle.gm_defs.specs.Body.{ack_bytes}
 use Rattle.world_defs.specs.Settle.{unacknowledged_in}
 use Rattle.gm_defs.specs.Token.{Sent, Received}

@@ -1,7 +1,7 @@
 //! A body of the mapper's protocol came.
 
 ghost use Rattle.std.specs.Prelude.{◌≡◌, IfOk, OnOk, OnErr};
-ghost use Rattle.mapper_bodies.specs.Mapping.{decode_mapping, MappingBody};
+ghost use Rattle.world_defs.specs.Mapping.{decode_mapping, MappingBody};
 ghost use Rattle.world_defs.specs.Table.{applied};
 ghost use Rattle.world_defs.specs.Hearing.{OfMapper, part_heard, mapping_read, hear_body};
 ghost use Rattle.probe.specs.Body.{said};

@@ -2,10 +2,9 @@
 
 ghost use Rattle.std.specs.Prelude.{◌≡◌, ◌<◌, ◌≤◌, nat_lt, length, true, is_some, if◌then◌else◌, None, Some};
 ghost use Rattle.std.specs.Prelude.{replicate, IfOk};
-ghost use Rattle.mapper_bodies.specs.Mapping.{is_part};
+ghost use Rattle.world_defs.specs.Mapping.{is_part};
 ghost use Rattle.world_defs.specs.Node.{StagedProbe, StagedPart, has_staged, given_up, node_expired};
-ghost use Rattle.world_defs.specs.Node.{probe_packet, port_count};
-ghost use Rattle.world_defs.specs.Node.{unacknowledged_to, lane_count, lane_of, lane_at};
+ghost use Rattle.world_defs.specs.Node.{probe_packet, port_count, unacknowledged_to, lane_count, lane_of, lane_at};
 ghost use Rattle.gm_defs.specs.Body.{is_prio};
 ghost use Rattle.world_defs.specs.Table.{active_epoch, revoked_table, has_revoked};
 ghost use Rattle.nic_node.specs.Held.{unused_node, in_state};

@@ -33,7 +33,7 @@ use Rattle.circ_defs.proofs.Sides.{part-step}
 use Rattle.circ_defs.proofs.Ways.{way-push, one-of-either}
 use Rattle.circ_laws.proofs.Ends.{IsEndOf, one-number, CabledBy, cabled-number, number-cabled, first-of, second-of}
 use Rattle.circ_laws.proofs.Sides.{EdgeOf, without-edge, edge-without, Joined, OutsideBy, outside-means, means-outside}
-use Rattle.cable_history.proofs.Now.{now_is_fabric}
+use Rattle.world_defs.proofs.Now.{now_is_fabric}
 use Rattle.world_defs.specs.World.{fabric_of}
 use Rattle.run_defs.specs.declared.line.MapWords.TheVariants.{Complete}
 use Rattle.mapping_laws.proofs.Made.{made_map_is_map}

@@ -8,7 +8,7 @@ use Rattle.map_defs.specs.declared.vertex.MapVertex.{MapVertex}
 use Rattle.map_defs.specs.declared.vertex.MapVertex.TheVariants.{Host as HostVertex, Switch as SwitchVertex}
 use Rattle.map_defs.specs.NetMap.{NetMap}
 use Rattle.map_canon.specs.Printing.{IsOfFabric}
-use Rattle.cable_history.proofs.Now.{now_is_fabric}
+use Rattle.world_defs.proofs.Now.{now_is_fabric}
 use Rattle.fabric_file.specs.Reading.{AreNamed}
 use Rattle.world_defs.specs.World.{WorldState, fabric_of}
 use Rattle.run_defs.specs.declared.command.Command.{Command}

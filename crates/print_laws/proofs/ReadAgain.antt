@@ -3,7 +3,7 @@ use Rattle.std.proofs.Common.{◌≡◌, ◌<◌, ◌≤◌, ◌+◌, ◌⊎◌,
 use Rattle.net_defs.specs.Network.{Network}
 use Rattle.journal_defs.specs.Growth.{IsEndedAtLimit, node_limit}
 use Rattle.map_defs.specs.NetMap.{NetMap}
-use Rattle.cable_history.proofs.Now.{now_is_fabric}
+use Rattle.world_defs.proofs.Now.{now_is_fabric}
 use Rattle.map_canon.specs.Printing.{AreOfFabric}
 use Rattle.map_canon.proofs.OfFabric.{each-of_fabric}
 use Rattle.map_canon.proofs.ReadBack.{map-read-back}

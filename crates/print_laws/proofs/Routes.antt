@@ -1,7 +1,7 @@
 -- The lines of routes after a run are of the last map, which is right.
 use Rattle.std.proofs.Common.{◌≡◌, inl, inr, List, [], Option, Some, None, option_map, refl, sym, ap, ◌∙◌}
 use Rattle.net_defs.specs.Network.{Network}
-use Rattle.cable_history.specs.History.{IsHistory, fabric_at}
+use Rattle.world_defs.specs.History.{IsHistory, fabric_at}
 use Rattle.map_defs.specs.Orientation.{order_of}
 use Rattle.map_defs.specs.Ranks.{ranks_of}
 use Rattle.map_defs.proofs.Places.{places_are_an_order}

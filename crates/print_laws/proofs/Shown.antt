@@ -3,7 +3,7 @@ use Rattle.std.proofs.Common.{◌≡◌, ◌≤◌, ◌-◌, ⊎_elim, inl, inr,
 use Rattle.std.specs.Prelude.{ℤ, ◌⊎◌}
 use Rattle.std.proofs.lemmas.Bool.{cases_lt}
 use Rattle.net_defs.specs.Network.{Network, IsFabric}
-use Rattle.link_defs.specs.Links.{is_idle}
+use Rattle.world_defs.specs.Links.{is_idle}
 use Rattle.journal_defs.specs.declared.entry.Entry.{Entry}
 use Rattle.journal_defs.specs.Truth.{IsTrueJournal, IsTrueWhereFound}
 use Rattle.journal_defs.specs.Growth.{NextAsk, IsGrowing, IsGrown, IsEndedByDepth, IsEndedAtLimit, IsClosed}
@@ -15,7 +15,7 @@ use Rattle.map_defs.specs.Core.{core_of}
 use Rattle.map_laws.proofs.OneJournal.{grown_journal_is_one}
 use Rattle.map_laws.proofs.OneMap.{quotient_is_one}
 use Rattle.map_laws.proofs.Alike.{cabled-there}
-use Rattle.cable_history.proofs.Now.{now_is_fabric}
+use Rattle.world_defs.proofs.Now.{now_is_fabric}
 use Rattle.world_defs.specs.World.{WorldState, fabric_of}
 use Rattle.run_defs.specs.declared.command.Command.{Command}
 use Rattle.run_defs.specs.declared.command.Command.TheVariants.{Map}

@@ -11,8 +11,8 @@ use Rattle.net_defs.specs.Turn.{is_turn}
 use Rattle.packet_defs.specs.RouteByte.{route_byte, turns_of}
 use Rattle.packet_defs.proofs.RouteBytes.{turn_of-route_byte}
 use Rattle.packet_defs.proofs.Reading.{turns_of-turns}
-use Rattle.mapper_bodies.specs.Mapping.{MappingBody, RoutePart, Front, number_front, two_front, byte_front, route_front, whole, probe_front, part_front, ack_front, by_the_rules, is_mapping, is_route, decode_mapping, mapping_bytes, route_bytes}
-use Rattle.mapper_bodies.specs.Mapping.MappingBody.{HostProbe, HostReply, Loopback, Part, PartAck}
+use Rattle.world_defs.specs.Mapping.{MappingBody, RoutePart, Front, number_front, two_front, byte_front, route_front, whole, probe_front, part_front, ack_front, by_the_rules, is_mapping, is_route, decode_mapping, mapping_bytes, route_bytes}
+use Rattle.world_defs.specs.Mapping.MappingBody.{HostProbe, HostReply, Loopback, Part, PartAck}
 use Rattle.probe.specs.Body.{of_probe, probe_in, missing}
 
 -- a value that is read whole, changed

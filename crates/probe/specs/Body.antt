@@ -4,8 +4,8 @@ use Rattle.probe.specs.declared.body.ProbeBody.{ProbeBody}
 use Rattle.probe.specs.declared.body.ProbeBody.TheVariants.{HostProbe as Probe, HostReply as Reply, Loop}
 use Rattle.probe.specs.declared.body.BodyFault.{BodyFault}
 use Rattle.probe.specs.declared.body.BodyFault.TheVariants.{Malformed}
-use Rattle.mapper_bodies.specs.Mapping.{MappingBody, decode_mapping}
-use Rattle.mapper_bodies.specs.Mapping.MappingBody.{HostProbe, HostReply, Loopback}
+use Rattle.world_defs.specs.Mapping.{MappingBody, decode_mapping}
+use Rattle.world_defs.specs.Mapping.MappingBody.{HostProbe, HostReply, Loopback}
 
 -- what a body says
 abbrev pub said : ProbeBody → MappingBody

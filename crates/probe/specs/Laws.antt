@@ -1,6 +1,6 @@
 -- The law of the bodies.
 use Rattle.std.specs.Prelude.{◌≡◌, ℕ, ◌<◌, ◌^◌, ℤ, true, List, Some}
-use Rattle.mapper_bodies.specs.Mapping.{HostProbe, HostReply, Loopback, mapping_bytes, decode_mapping, is_route}
+use Rattle.world_defs.specs.Mapping.{HostProbe, HostReply, Loopback, mapping_bytes, decode_mapping, is_route}
 
 -- a probe, a reply and a loopback probe that were written are read as what they are
 abbrev pub ProbeIsRead : Type 0

@@ -4,7 +4,7 @@ ghost use Rattle.std.specs.Prelude.{◌≡◌, ◌≤◌, ◌++◌, ◌∷◌, �
 ghost use Rattle.net_defs.specs.Turn.{IsTurn};
 ghost use Rattle.net_defs.specs.Refusal.{Refuses};
 ghost use Rattle.packet_defs.specs.RouteByte.{route_byte};
-ghost use Rattle.mapper_bodies.specs.Mapping.{MappingBody, mapping_bytes};
+ghost use Rattle.world_defs.specs.Mapping.{MappingBody, mapping_bytes};
 ghost use Rattle.probe.specs.Body.{said, probe_in, body_refusal};
 
 use crate::fields::{append_numbers, numbers, numbers_front, whole_numbers};

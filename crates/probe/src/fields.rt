@@ -2,7 +2,7 @@
 
 ghost use Rattle.std.specs.Prelude.{◌≡◌, ◌<◌, ◌^◌, ◌++◌, ◌∷◌, option_map, IfSome, OnOk};
 ghost use Rattle.std.specs.Int.{w16, w64, to_be_bytes};
-ghost use Rattle.mapper_bodies.specs.Mapping.{number_front, two_front, whole};
+ghost use Rattle.world_defs.specs.Mapping.{number_front, two_front, whole};
 
 use std::alloc::AllocError;
 

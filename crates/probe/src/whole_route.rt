@@ -2,7 +2,7 @@
 
 ghost use Rattle.std.specs.Prelude.{◌≡◌, Some, IfOk};
 ghost use Rattle.net_defs.specs.Refusal.{Refuses};
-ghost use Rattle.mapper_bodies.specs.Mapping.{route_front, whole};
+ghost use Rattle.world_defs.specs.Mapping.{route_front, whole};
 ghost use Rattle.probe.specs.Body.{missing};
 ghost use Rattle.probe.specs.declared.body.BodyFault.{BodyFault};
 

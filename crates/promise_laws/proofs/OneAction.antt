@@ -3,15 +3,15 @@ use Rattle.std.proofs.Common.{◌≡◌, ◌≢◌, ◌⊎◌, inl, inr, ◌/◌
 use Rattle.std.specs.Map.{lookup}
 use Rattle.packet_defs.specs.Packet.{stripped}
 use Rattle.net_defs.specs.declared.vertex.End.{End}
-use Rattle.cable_history.specs.Crossed.{leaving, pulled_at}
-use Rattle.cable_history.specs.History.{may_plug, with_plugged, with_accepted}
-use Rattle.link_defs.specs.declared.moved.Course.TheVariants.{Arrives, Enters}
-use Rattle.link_defs.specs.Links.{Held, Caught, LinkState, with_packet, emptied}
-use Rattle.link_defs.specs.Fault.{caught_as, replay_of, pull_by, pull, plug, accept}
-use Rattle.link_defs.specs.Step.{Step, Lose as LoseLinks, Repeat as RepeatLinks, Hold as HoldLinks, Flip as FlipLinks, stepped}
-use Rattle.link_defs.proofs.Idling.{pull-idle, plug-idle}
-use Rattle.link_defs.proofs.Later.{pull-cables}
-use Rattle.link_defs.proofs.Shapes.{stepped-cables}
+use Rattle.world_defs.specs.Crossed.{leaving, pulled_at}
+use Rattle.world_defs.specs.History.{may_plug, with_plugged, with_accepted}
+use Rattle.world_defs.specs.declared.moved.Course.TheVariants.{Arrives, Enters}
+use Rattle.world_defs.specs.Links.{Held, Caught, LinkState, with_packet, emptied}
+use Rattle.world_defs.specs.Fault.{caught_as, replay_of, pull_by, pull, plug, accept}
+use Rattle.world_defs.specs.LinkStep.{Step, Lose as LoseLinks, Repeat as RepeatLinks, Hold as HoldLinks, Flip as FlipLinks, stepped}
+use Rattle.world_defs.proofs.Idling.{pull-idle, plug-idle}
+use Rattle.world_defs.proofs.LinksLater.{pull-cables}
+use Rattle.world_defs.proofs.Shapes.{stepped-cables}
 use Rattle.world_defs.specs.declared.event.Event.{Event}
 use Rattle.world_defs.specs.declared.event.Event.TheVariants.{Ask, Part, Inject, Advance, Lose, Repeat, Hold, Flip, Replay, Reset, Expire, GiveUp, Revoke, Begin, Close, Provide, Send, Poll, Pull, Plug}
 use Rattle.world_defs.specs.declared.fault.Fault.TheVariants.{Lose as LoseFault, Repeat as RepeatFault, Hold as HoldFault, Flip as FlipFault, Pull as PullFault}

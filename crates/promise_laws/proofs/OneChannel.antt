@@ -5,13 +5,13 @@ use Rattle.std.specs.List.{filter}
 use Rattle.std.specs.Map.{lookup, remove_entry}
 use Rattle.packet_defs.specs.Burst.{flipped, may_flip}
 use Rattle.gm_defs.proofs.Found.{filter-append, filter-none}
-use Rattle.link_defs.specs.Links.{Held, Caught, LinkState, packet_in, with_packet, emptied, put}
+use Rattle.world_defs.specs.Links.{Held, Caught, LinkState, packet_in, with_packet, emptied, put}
 use Rattle.net_defs.specs.declared.vertex.End.{End}
-use Rattle.cable_history.specs.History.{may_plug, with_plugged}
-use Rattle.cable_history.specs.Crossed.{leaving}
-use Rattle.link_defs.specs.Fault.{caught_as, is_used_up, repeat, repeat_of, hold, hold_of, flip, flip_of, released, replay_of, with_caught, without_cable, pulled, pull_by, plug}
-use Rattle.link_defs.specs.declared.replayed.Replayed.{Replayed}
-use Rattle.link_defs.specs.declared.replayed.Replayed.TheVariants.{Back, Busy}
+use Rattle.world_defs.specs.History.{may_plug, with_plugged}
+use Rattle.world_defs.specs.Crossed.{leaving}
+use Rattle.world_defs.specs.Fault.{caught_as, is_used_up, repeat, repeat_of, hold, hold_of, flip, flip_of, released, replay_of, with_caught, without_cable, pulled, pull_by, plug}
+use Rattle.world_defs.specs.declared.replayed.Replayed.{Replayed}
+use Rattle.world_defs.specs.declared.replayed.Replayed.TheVariants.{Back, Busy}
 use Rattle.world_defs.specs.declared.fault.Fault.{Fault}
 use Rattle.world_defs.specs.declared.fault.Fault.TheVariants.{Lose as LoseFault, Repeat as RepeatFault, Hold as HoldFault, Flip as FlipFault, Pull as PullFault}
 use Rattle.world_defs.specs.Node.{Outgoing}

@@ -7,8 +7,8 @@ use Rattle.net_defs.specs.declared.fault.GraphFault.{GraphFault}
 use Rattle.net_defs.specs.declared.fault.GraphFault.TheVariants.{NoVertex, PortRange, PortUsed as Used}
 use Rattle.net_defs.specs.Network.{Network, has_vertex, has_port}
 use Rattle.net_defs.specs.Building.{is_used, cable_refusal}
-use Rattle.cable_history.specs.History.{cable_limit, with_plugged}
-use Rattle.link_defs.specs.Links.{LinkState}
+use Rattle.world_defs.specs.History.{cable_limit, with_plugged}
+use Rattle.world_defs.specs.Links.{LinkState}
 use Rattle.journal_defs.proofs.Distance.{port-vertex}
 use Rattle.world_defs.specs.declared.event.Event.TheVariants.{Plug as PlugEvent}
 use Rattle.world_defs.specs.declared.effect.Effect.TheVariants.{Said as Says}

@@ -4,8 +4,8 @@ use Rattle.std.specs.Prelude.{IsSome}
 use Rattle.std.proofs.lemmas.Option.{same_Some}
 use Rattle.net_defs.specs.declared.vertex.End.{End}
 use Rattle.net_defs.specs.Network.{far}
-use Rattle.cable_history.specs.Crossed.{leaving, pulled_with}
-use Rattle.link_defs.specs.Fault.{pull_by}
+use Rattle.world_defs.specs.Crossed.{leaving, pulled_with}
+use Rattle.world_defs.specs.Fault.{pull_by}
 use Rattle.world_defs.specs.declared.event.Event.TheVariants.{Pull as PullEvent}
 use Rattle.world_defs.specs.declared.effect.Effect.{Effect}
 use Rattle.world_defs.specs.declared.effect.Effect.TheVariants.{Idle, Said as Says}

@@ -5,7 +5,7 @@ use Rattle.std.specs.List.{AllByRecursion, filter}
 use Rattle.net_defs.specs.declared.route.Route.{Route}
 use Rattle.net_defs.specs.declared.vertex.End.{End}
 use Rattle.net_defs.specs.Network.{Network, IsFabric}
-use Rattle.cable_history.specs.Crossed.{leaving}
+use Rattle.world_defs.specs.Crossed.{leaving}
 use Rattle.net_defs.proofs.Distinct.{all-push}
 use Rattle.journal_defs.specs.declared.entry.Entry.{Entry}
 use Rattle.gm_defs.specs.declared.frame.ConnectionKey.{ConnectionKey}

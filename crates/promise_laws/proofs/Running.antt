@@ -7,8 +7,8 @@ use Rattle.net_defs.proofs.Distinct.{all-push}
 use Rattle.run_defs.specs.declared.command.Command.{Command}
 use Rattle.run_defs.specs.declared.command.Command.TheVariants.{Walk, Map, Circuit, Routes, Install, Begin, Close, Poll, Tokens, Provide, Send, Plan, Step, Settle, Finish, Duo, Pull, Plug, Revoke, Broken}
 use Rattle.run_defs.specs.declared.line.Line.TheVariants.{MapBusy}
-use Rattle.cable_history.proofs.Now.{now_is_fabric}
-use Rattle.link_defs.specs.Links.{is_idle}
+use Rattle.world_defs.proofs.Now.{now_is_fabric}
+use Rattle.world_defs.specs.Links.{is_idle}
 use Rattle.world_defs.specs.World.{WorldState, fabric_of}
 use Rattle.run_defs.specs.Output.{Piece}
 use Rattle.run_defs.specs.Session.{SessionState, LastMap, complete_map, new_session}

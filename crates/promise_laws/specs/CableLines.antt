@@ -3,8 +3,8 @@ use Rattle.std.specs.Prelude.{◌≡◌, ◌≢◌, ◌↔◌, ℕ, ◌<◌, ◌
 use Rattle.net_defs.specs.declared.vertex.End.{End}
 use Rattle.net_defs.specs.Network.{Network, has_port, far}
 use Rattle.net_defs.specs.Building.{is_used}
-use Rattle.cable_history.specs.History.{cable_limit, with_plugged}
-use Rattle.cable_history.specs.Crossed.{pulled_at}
+use Rattle.world_defs.specs.History.{cable_limit, with_plugged}
+use Rattle.world_defs.specs.Crossed.{pulled_at}
 use Rattle.world_defs.specs.Table.{Adoption, has_revoked}
 use Rattle.world_defs.specs.World.{WorldState, fabric_of, host_count, node_at}
 use Rattle.world_defs.specs.Acts.{IsReached}

@@ -3,10 +3,10 @@
 use Rattle.std.specs.Prelude.{◌≡◌, ℕ, List, [], ◌∷◌, map, Option, Some, option_map}
 use Rattle.std.specs.List.{filter}
 use Rattle.net_defs.specs.Examples.{two_hosts, host_end, switch_end}
-use Rattle.link_defs.specs.declared.moved.Course.{Course}
-use Rattle.link_defs.specs.declared.moved.Course.TheVariants.{Arrives, Enters}
-use Rattle.link_defs.specs.Links.{packet_in}
-use Rattle.link_defs.specs.Advance.{course}
+use Rattle.world_defs.specs.declared.moved.Course.{Course}
+use Rattle.world_defs.specs.declared.moved.Course.TheVariants.{Arrives, Enters}
+use Rattle.world_defs.specs.Links.{packet_in}
+use Rattle.world_defs.specs.Advance.{course}
 use Rattle.gm_defs.specs.declared.message.Message.{Message}
 use Rattle.gm_defs.specs.Connection.{connection}
 use Rattle.world_defs.specs.declared.client.ClientCause.TheVariants.{NoToken}

@@ -2,7 +2,7 @@
 use Rattle.std.specs.Prelude.{◌≡◌, ◌⊎◌, ℕ, false, slice_get, Some}
 use Rattle.std.specs.List.{AllByRecursion}
 use Rattle.net_defs.specs.Network.{Network}
-use Rattle.link_defs.specs.Links.{Held, Caught, packet_in}
+use Rattle.world_defs.specs.Links.{Held, Caught, packet_in}
 use Rattle.gm_defs.specs.Token.{Sending, PortState}
 use Rattle.world_defs.specs.Node.{NodeState, port_at}
 use Rattle.world_defs.specs.Table.{ActiveTable}

@@ -1,7 +1,7 @@
 -- What a table makes of a part, case by case.
 use Rattle.std.proofs.Common.{◌≡◌, ◌<◌, ◌≤◌, ℕ, Bool, true, false, ◌&&◌, ◌||◌, nat_lt, nat_eq, ap, ◌∙◌, refl, arith, [], take, Some, None, if◌then◌else◌}
 use Rattle.std.proofs.lemmas.Bool.Decides.{nat_tests}
-use Rattle.mapper_bodies.specs.Mapping.{RoutePart}
+use Rattle.world_defs.specs.Mapping.{RoutePart}
 use Rattle.world_defs.specs.declared.applied.Applied.TheVariants.{Part, Active, Old}
 use Rattle.world_defs.specs.Table.{TableState, applied, joined, joined_or, is_epoch, is_old, active_epoch}
 use Rattle.route_install.specs.Collecting.{with_one, AreNumbered, joined_all, are_all}

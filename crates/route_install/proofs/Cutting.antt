@@ -6,7 +6,7 @@ use Rattle.std.proofs.lemmas.Bool.Decides.{nat_tests}
 use Rattle.net_defs.specs.declared.route.Route.{Route}
 use Rattle.net_defs.specs.RouteSet.{route_below, AreRising}
 use Rattle.port_graph.specs.Routes.{walk_of, goes}
-use Rattle.mapper_bodies.specs.Mapping.{RouteEntry}
+use Rattle.world_defs.specs.Mapping.{RouteEntry}
 use Rattle.world_defs.specs.Table.{Adoption, route_of, entries_from, part_count, part_entries, part_with, part_for}
 use Rattle.std.proofs.lemmas.List.{length-map, take-map, drop-map}
 

@@ -8,7 +8,7 @@ use Rattle.std.proofs.lemmas.Bool.Decides.{nat_tests}
 use Rattle.std.proofs.Math.Seq.{take-add}
 use Rattle.std.proofs.lemmas.List.{take_all}
 use Rattle.std.proofs.lemmas.Option.{same_Some}
-use Rattle.mapper_bodies.specs.Mapping.{RouteEntry, RoutePart}
+use Rattle.world_defs.specs.Mapping.{RouteEntry, RoutePart}
 use Rattle.world_defs.specs.declared.applied.Applied.{Applied}
 use Rattle.world_defs.specs.Table.{Adoption, TableState, ActiveTable, entries_from, route_of, part_entries, part_with, part_for, with_part, joined_below, joined, joined_or, applied, whole_table, is_epoch, active_epoch}
 use Rattle.route_install.specs.Collecting.{Numbered, with_one}

@@ -10,7 +10,7 @@ use Rattle.std.proofs.lemmas.List.{append-nil}
 use Rattle.std.proofs.lemmas.List.Folds.{find-append}
 use Rattle.std.specs.declared.alloc.AllocError.{AllocError}
 use Rattle.net_defs.proofs.Distinct.{all-weaker}
-use Rattle.mapper_bodies.specs.Mapping.{RouteEntry}
+use Rattle.world_defs.specs.Mapping.{RouteEntry}
 use Rattle.world_defs.specs.Table.{with_part, joined_below}
 use Rattle.route_install.specs.Collecting.{Numbered, joined_all, AreNumbered, place_of, has_number, are_all}
 

@@ -9,7 +9,7 @@ use Rattle.std.proofs.lemmas.List.Sums.{list_all-from_AllPass}
 use Rattle.net_defs.specs.Turn.{is_turn, IsTurn}
 use Rattle.net_defs.specs.declared.route.Route.{Route}
 use Rattle.net_defs.specs.RouteSet.{route_below, AreRising}
-use Rattle.mapper_bodies.specs.Mapping.{RouteEntry, is_route, are_entries, is_part}
+use Rattle.world_defs.specs.Mapping.{RouteEntry, is_route, are_entries, is_part}
 use Rattle.world_defs.specs.Table.{part_count}
 use Rattle.route_install.specs.Collecting.{is_fit}
 use Rattle.route_install.proofs.Cutting.{entry, rising-drop}

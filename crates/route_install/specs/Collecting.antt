@@ -2,7 +2,7 @@
 use Rattle.std.specs.Prelude.{ℕ, zero, suc, ◌<◌, ◌^◌, Bool, true, false, ◌&&◌, nat_lt, List, [], ◌∷◌, ◌++◌, nat_eq}
 use Rattle.std.specs.Prelude.{nat_le, slice_get, if◌then◌else◌, Option, Some, None, option_map}
 use Rattle.std.specs.List.{AllByRecursion}
-use Rattle.mapper_bodies.specs.Mapping.{RouteEntry, is_route}
+use Rattle.world_defs.specs.Mapping.{RouteEntry, is_route}
 use Rattle.world_defs.specs.Table.{TableState, ActiveTable, with_part, of_epoch}
 
 -- A table and the host that it is of.

@@ -1,7 +1,7 @@
 -- Entries by rising host, and one of them.
 use Rattle.std.specs.Prelude.{◌≡◌, ℕ, ◌+◌, Bool, List, [], ◌∷◌, nat_lt, slice_get, is_some, if◌then◌else◌}
 use Rattle.std.specs.Prelude.{Option, Some, None}
-use Rattle.mapper_bodies.specs.Mapping.{RouteEntry}
+use Rattle.world_defs.specs.Mapping.{RouteEntry}
 use Rattle.route_install.specs.Collecting.{Numbered, joined_all}
 
 -- the number after the last host of entries, where their hosts rise from a least one on

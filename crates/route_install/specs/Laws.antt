@@ -3,7 +3,7 @@ use Rattle.std.specs.Prelude.{◌≡◌, ℕ, ◌<◌, Bool, true, false, ◌&&�
 use Rattle.std.specs.List.{AllByRecursion, list_any}
 use Rattle.net_defs.specs.declared.route.Route.{Route}
 use Rattle.net_defs.specs.RouteSet.{AreRising}
-use Rattle.mapper_bodies.specs.Mapping.{RoutePart}
+use Rattle.world_defs.specs.Mapping.{RoutePart}
 use Rattle.world_defs.specs.Table.{Adoption, TableState, entries_from, part_count, part_for, applied, whole_table}
 use Rattle.world_defs.specs.Table.{is_epoch, active_epoch}
 use Rattle.route_install.specs.Installing.{AreHosts, parts_for}

@@ -2,7 +2,7 @@
 
 ghost use Rattle.std.specs.Prelude.{◌≡◌, ℕ, ◌≤◌, ◌*◌, true, map, take, drop, length, nat_eq, IfOk, IfSome};
 ghost use Rattle.std.specs.List.{filter, list_all};
-ghost use Rattle.mapper_bodies.specs.Mapping.{is_part, is_route};
+ghost use Rattle.world_defs.specs.Mapping.{is_part, is_route};
 ghost use Rattle.net_defs.specs.RouteSet.{AreRising};
 ghost use Rattle.route_install.specs.Collecting.{is_fit};
 ghost use Rattle.world_defs.specs.Table.{entries_from, part_for, part_count, part_entries};

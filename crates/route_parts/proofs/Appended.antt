@@ -3,8 +3,8 @@ use Rattle.std.proofs.Common.{ℕ, ◌≡◌, List, [], ◌∷◌, ◌++◌, map
 use Rattle.std.specs.Prelude.{ℤ}
 use Rattle.std.specs.Int.{w16, w32, to_be_bytes}
 use Rattle.packet_defs.specs.RouteByte.{route_byte}
-use Rattle.mapper_bodies.specs.Mapping.{RouteEntry, RoutePart, mapping_bytes, entry_bytes, route_bytes}
-use Rattle.mapper_bodies.specs.Mapping.MappingBody.{Part}
+use Rattle.world_defs.specs.Mapping.{RouteEntry, RoutePart, mapping_bytes, entry_bytes, route_bytes}
+use Rattle.world_defs.specs.Mapping.MappingBody.{Part}
 
 -- four lists after one, as they were written
 abbrev pub four_behind : (old a b c d : List ℕ) → List ℕ

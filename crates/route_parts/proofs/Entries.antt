@@ -7,7 +7,7 @@ use Rattle.std.specs.List.{list_all}
 use Rattle.std.proofs.lemmas.Bool.{and_parts}
 use Rattle.std.proofs.lemmas.Bool.Decides.{nat_tests}
 use Rattle.packet_defs.specs.RouteByte.{turn_of, is_route_byte, turns_of}
-use Rattle.mapper_bodies.specs.Mapping.{RouteEntry, Front, entry_front, entries_front, whole, is_route, are_entries, entry_bytes, route_bytes}
+use Rattle.world_defs.specs.Mapping.{RouteEntry, Front, entry_front, entries_front, whole, is_route, are_entries, entry_bytes, route_bytes}
 use Rattle.packet_defs.proofs.Reading.{turns_of-turns}
 use Rattle.route_parts.specs.Reading.{is_above, are_risen, rise_from}
 use Rattle.route_parts.specs.Viewing.{entry_viewed}

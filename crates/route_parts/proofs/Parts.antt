@@ -6,9 +6,9 @@ use Rattle.std.specs.Int.{w16, w32, w64}
 use Rattle.std.proofs.lemmas.Option.{same_Some}
 use Rattle.std.proofs.lemmas.Bool.{and_parts}
 use Rattle.std.proofs.lemmas.Bool.Decides.{nat_tests}
-use Rattle.mapper_bodies.specs.Mapping.{RouteEntry, RoutePart, MappingBody, Front, number_front, byte_front, two_front, route_front, entry_front, entries_front, whole, with_entries, with_back, part_front, ack_front, probe_front, by_the_rules, is_mapping, is_part, is_route, are_entries, decode_mapping}
+use Rattle.world_defs.specs.Mapping.{RouteEntry, RoutePart, MappingBody, Front, number_front, byte_front, two_front, route_front, entry_front, entries_front, whole, with_entries, with_back, part_front, ack_front, probe_front, by_the_rules, is_mapping, is_part, is_route, are_entries, decode_mapping}
 use Rattle.packet_defs.specs.RouteByte.{turns_of}
-use Rattle.mapper_bodies.specs.Mapping.MappingBody.{HostProbe, HostReply, Loopback, Part, PartAck}
+use Rattle.world_defs.specs.Mapping.MappingBody.{HostProbe, HostReply, Loopback, Part, PartAck}
 use Rattle.route_parts.specs.declared.head.Head.{Head}
 use Rattle.route_parts.specs.declared.fault.BodyFault.{BodyFault}
 use Rattle.route_parts.specs.Reading.{of_part, part_in, missing, bytes_front, numbers_front, part_of, ruled, part_behind, are_risen, rise_from}

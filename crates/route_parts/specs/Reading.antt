@@ -3,9 +3,9 @@ use Rattle.std.specs.Prelude.{ℕ, Bool, true, false, ◌&&◌, List, [], nat_lt
 use Rattle.std.specs.Prelude.{option_map, option_and_then}
 use Rattle.std.specs.List.{list_all}
 use Rattle.std.specs.Int.{w16, w32}
-use Rattle.mapper_bodies.specs.Mapping.{MappingBody, RoutePart, RouteEntry, Front, decode_mapping, is_part, are_entries}
-use Rattle.mapper_bodies.specs.Mapping.{number_front, byte_front, two_front, entries_front, with_back, whole}
-use Rattle.mapper_bodies.specs.Mapping.MappingBody.{Part, PartAck}
+use Rattle.world_defs.specs.Mapping.{MappingBody, RoutePart, RouteEntry, Front, decode_mapping, is_part, are_entries}
+use Rattle.world_defs.specs.Mapping.{number_front, byte_front, two_front, entries_front, with_back, whole}
+use Rattle.world_defs.specs.Mapping.MappingBody.{Part, PartAck}
 use Rattle.route_parts.specs.declared.ack.PartAck.{PartAck as Acknowledgement}
 use Rattle.route_parts.specs.declared.fault.BodyFault.{BodyFault}
 use Rattle.route_parts.specs.declared.fault.BodyFault.TheVariants.{Malformed}

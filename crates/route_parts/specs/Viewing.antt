@@ -3,7 +3,7 @@ use Rattle.std.specs.Prelude.{ℕ, ℤ, Bool, ◌&&◌, List, nat_lt, nat_le, Op
 use Rattle.std.specs.Prelude.{option_and_then}
 use Rattle.packet_defs.specs.RouteByte.{turns_of}
 use Rattle.route_parts.specs.declared.head.Head.{Head}
-use Rattle.mapper_bodies.specs.Mapping.{RouteEntry, RoutePart, Front, entries_front, whole}
+use Rattle.world_defs.specs.Mapping.{RouteEntry, RoutePart, Front, entries_front, whole}
 
 -- the route that is in front, by its bytes and those after
 abbrev pub route_viewed : Front (List ℕ) → Front (List ℤ)

@@ -2,12 +2,12 @@
 
 ghost use Rattle.std.specs.Prelude.{◌≡◌, ◌<◌, ◌^◌, ◌++◌, ◌∷◌, Some, length, IfOk, IfErr, OnOk};
 ghost use Rattle.std.specs.Int.{w16, w32, to_be_bytes};
-ghost use Rattle.mapper_bodies.specs.Mapping.{mapping_bytes, decode_mapping};
+ghost use Rattle.world_defs.specs.Mapping.{mapping_bytes, decode_mapping};
 ghost use Rattle.route_parts.specs.Reading.{ack_body, ack_in, missing};
 
 use crate::fault::BodyFault;
 use crate::fronts::{byte_front, two_front};
-use mapper_bodies::mapping_is_read;
+use world_defs::mapping_is_read;
 use std::alloc::{AllocError, Global};
 
 // The kind of its body.

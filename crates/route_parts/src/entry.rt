@@ -15,7 +15,7 @@ pub struct TableEntry {
 }
 
 impl Model for TableEntry {
-    ghost use Rattle.mapper_bodies.specs.Mapping.{RouteEntry};
+    ghost use Rattle.world_defs.specs.Mapping.{RouteEntry};
 
     ghost Value = { RouteEntry };
 
@@ -30,7 +30,7 @@ pub struct EntryList {
 
 impl Model for EntryList {
     ghost use Rattle.std.specs.Prelude.{List};
-    ghost use Rattle.mapper_bodies.specs.Mapping.{RouteEntry};
+    ghost use Rattle.world_defs.specs.Mapping.{RouteEntry};
 
     ghost Value = { List RouteEntry };
 

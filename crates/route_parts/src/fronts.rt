@@ -2,7 +2,7 @@
 
 ghost use Rattle.std.specs.Prelude.{◌≡◌, ◌<◌, ◌^◌, option_map, IfSome};
 ghost use Rattle.std.specs.Int.{w16, w32};
-ghost use Rattle.mapper_bodies.specs.Mapping.{number_front, byte_front, two_front};
+ghost use Rattle.world_defs.specs.Mapping.{number_front, byte_front, two_front};
 ghost use Rattle.route_parts.specs.Reading.{bytes_front, numbers_front};
 
 use crate::head::Head;

@@ -1,6 +1,6 @@
 //! A part of a host's table, and the acknowledgement of one, as they travel: their bodies written and read.
 //!
-//! It cuts no set of routes and keeps no table: that is `route_install`. `specs/Mapping.antt` of `mapper_bodies` says
+//! It cuts no set of routes and keeps no table: that is `route_install`. `specs/Mapping.antt` of `world_defs` says
 //! what a body is, and `specs/Reading.antt` what bytes say of these two.
 //!
 //! ```text

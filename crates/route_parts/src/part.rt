@@ -3,15 +3,15 @@
 ghost use Rattle.std.specs.Prelude.{◌≡◌, ◌≤◌, ◌++◌, ◌∷◌, [], Some, true, length, IfOk, OnOk};
 ghost use Rattle.std.specs.Int.{w16, w32, to_be_bytes};
 ghost use Rattle.net_defs.specs.Refusal.{Refuses};
-ghost use Rattle.mapper_bodies.specs.Mapping.{MappingBody, is_part, mapping_bytes, decode_mapping, route_bytes};
-ghost use Rattle.mapper_bodies.specs.Mapping.{entry_bytes};
+ghost use Rattle.world_defs.specs.Mapping.{MappingBody, is_part, mapping_bytes, decode_mapping, route_bytes};
+ghost use Rattle.world_defs.specs.Mapping.{entry_bytes};
 ghost use Rattle.route_parts.specs.Reading.{part_in, missing};
 
 use crate::entry::{EntryList, TableEntry};
 use crate::fault::BodyFault;
 use crate::fronts::{byte_front, numbers_front};
 use crate::reading::part_behind;
-use mapper_bodies::mapping_is_read;
+use world_defs::mapping_is_read;
 use net_defs::Walk;
 use packet_defs::push_route;
 use std::alloc::{AllocError, Global};
@@ -43,7 +43,7 @@ pub struct RoutePart {
 }
 
 impl Model for RoutePart {
-    ghost use Rattle.mapper_bodies.specs.Mapping.{RoutePart as PartOfTable};
+    ghost use Rattle.world_defs.specs.Mapping.{RoutePart as PartOfTable};
 
     ghost Value = { PartOfTable };
 

@@ -2,7 +2,7 @@
 
 ghost use Rattle.std.specs.Prelude.{◌≡◌, ◌<◌, ◌≤◌, ◌^◌, length, true, Some, None, IfOk, IfSome, IsSome};
 ghost use Rattle.net_defs.specs.Refusal.{Refuses};
-ghost use Rattle.mapper_bodies.specs.Mapping.{is_part, entries_front, whole};
+ghost use Rattle.world_defs.specs.Mapping.{is_part, entries_front, whole};
 ghost use Rattle.packet_defs.specs.RouteByte.{turns_of};
 ghost use Rattle.route_parts.specs.Reading.{part_behind, rise_from, missing};
 ghost use Rattle.route_parts.specs.Viewing.{part_viewed, is_ruled};

@@ -3,7 +3,7 @@
 ghost use Rattle.std.specs.Prelude.{◌≡◌, ◌<◌, ◌≤◌, ◌^◌, length, true, is_some, option_map, option_and_then, IfSome};
 ghost use Rattle.std.specs.Prelude.{IsSome};
 ghost use Rattle.std.specs.List.{list_all};
-ghost use Rattle.mapper_bodies.specs.Mapping.{route_front, entry_front};
+ghost use Rattle.world_defs.specs.Mapping.{route_front, entry_front};
 ghost use Rattle.packet_defs.specs.RouteByte.{turns_of, is_route_byte};
 ghost use Rattle.route_parts.specs.Reading.{rise_from, is_above};
 ghost use Rattle.route_parts.specs.Viewing.{route_viewed, entry_viewed};

@@ -1,7 +1,7 @@
 -- A law of deeds by the kinds of commands: it is shown of lines alone, of events, of a plan, of an installation, and of an
 -- event of the two hosts that restart.
 use Rattle.std.proofs.Common.{◌≡◌, ℕ, Bool, true, false, not, List, [], ◌∷◌, Option, Some, None, option_map, refl, subst, if◌then◌else◌}
-use Rattle.link_defs.specs.Links.{is_idle}
+use Rattle.world_defs.specs.Links.{is_idle}
 use Rattle.duo_defs.specs.declared.event.DuoEvent.{DuoEvent}
 use Rattle.duo_defs.specs.Step.{step as duo_step}
 use Rattle.world_defs.specs.declared.event.Event.{Event}

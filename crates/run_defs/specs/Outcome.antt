@@ -8,9 +8,9 @@ use Rattle.net_defs.specs.declared.route.Route.{Route}
 use Rattle.net_defs.specs.Building.{cable_refusal}
 use Rattle.net_defs.specs.Route.{place}
 use Rattle.net_defs.specs.Examples.{host_end}
-use Rattle.cable_history.specs.History.{cable_limit}
-use Rattle.cable_history.specs.Crossed.{leaving, life_tail}
-use Rattle.link_defs.specs.Links.{is_idle}
+use Rattle.world_defs.specs.History.{cable_limit}
+use Rattle.world_defs.specs.Crossed.{leaving, life_tail}
+use Rattle.world_defs.specs.Links.{is_idle}
 use Rattle.gm_defs.specs.declared.token.TokenPlace.{TokenPlace}
 use Rattle.gm_defs.specs.Token.{PortState, place_of_send, place_of_recv}
 use Rattle.duo_defs.specs.declared.event.DuoEvent.{DuoEvent}

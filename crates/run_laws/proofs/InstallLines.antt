@@ -6,8 +6,8 @@ use Rattle.std.proofs.lemmas.Option.{same_Some}
 use Rattle.std.proofs.lemmas.List.{get_or-set_same}
 use Rattle.net_defs.specs.declared.vertex.Vertex.TheVariants.{Host}
 use Rattle.net_defs.specs.Network.{Network, IsFabric, has_vertex}
-use Rattle.link_defs.specs.Links.{LinkState, is_idle}
-use Rattle.link_defs.specs.Fault.{accept}
+use Rattle.world_defs.specs.Links.{LinkState, is_idle}
+use Rattle.world_defs.specs.Fault.{accept}
 use Rattle.journal_defs.specs.Part.{Path, IsInPart}
 use Rattle.journal_defs.proofs.Members.{IsMember}
 use Rattle.map_defs.specs.NetMap.{host_of_vertex, hosts_of}
@@ -35,7 +35,7 @@ use Rattle.run_defs.proofs.ByKind.{IsLaw, by-kind, outcome-law}
 use Rattle.run_defs.specs.Run.Runs.{ended, goes_on}
 use Rattle.run_defs.specs.Headline.{FitsFabric}
 use Rattle.world_defs.specs.Acts.{IsReached}
-use Rattle.cable_history.specs.History.{CableHistory, fabric_at}
+use Rattle.world_defs.specs.History.{CableHistory, fabric_at}
 use Rattle.world_defs.proofs.ActsKept.{CablesKept}
 use Rattle.world_defs.proofs.Cables.{reached-cables}
 use Rattle.mapping_laws.specs.Runs.{IsSessionOf}

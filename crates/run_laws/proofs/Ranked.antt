@@ -7,10 +7,10 @@ use Rattle.net_defs.specs.declared.route.Route.{Route}
 use Rattle.net_defs.specs.declared.vertex.End.{End}
 use Rattle.net_defs.specs.Network.{Network, IsFabric}
 use Rattle.net_defs.specs.Route.{channels_of}
-use Rattle.cable_history.specs.History.{first_history}
-use Rattle.cable_history.specs.Crossed.{life_tail}
-use Rattle.cable_history.proofs.First.{first_channels}
-use Rattle.cable_history.proofs.ForLife.{leaving_has_its_end}
+use Rattle.world_defs.specs.History.{first_history}
+use Rattle.world_defs.specs.Crossed.{life_tail}
+use Rattle.world_defs.proofs.First.{first_channels}
+use Rattle.world_defs.proofs.ForLife.{leaving_has_its_end}
 use Rattle.map_defs.specs.declared.rank.RankEntry.{RankEntry}
 use Rattle.map_defs.specs.NetMap.{NetMap, MapPort, IsMap}
 use Rattle.map_defs.specs.Orientation.{order_of}

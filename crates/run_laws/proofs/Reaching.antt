@@ -3,9 +3,9 @@ use Rattle.std.proofs.Common.{◌≡◌, ℕ, ◌≤◌, List, [], ◌∷◌, ma
 use Rattle.std.specs.List.{AllByRecursion}
 use Rattle.net_defs.specs.declared.vertex.End.{End}
 use Rattle.net_defs.specs.Network.{Network, IsFabric}
-use Rattle.cable_history.specs.History.{CableHistory, IsHistory, fabric_at}
-use Rattle.cable_history.specs.Crossed.{leaving}
-use Rattle.cable_history.proofs.Now.{last_is_now}
+use Rattle.world_defs.specs.History.{CableHistory, IsHistory, fabric_at}
+use Rattle.world_defs.specs.Crossed.{leaving}
+use Rattle.world_defs.proofs.Now.{last_is_now}
 use Rattle.world_defs.proofs.ActsKept.{CablesKept}
 use Rattle.journal_defs.specs.declared.entry.Entry.{Entry}
 use Rattle.world_defs.specs.declared.event.Event.{Event}

@@ -3,12 +3,12 @@ use Rattle.std.specs.Prelude.{◌≡◌, ℕ, ◌<◌, ◌≤◌, true, List, �
 use Rattle.std.specs.List.{AllByRecursion, list_any, filter}
 use Rattle.net_defs.specs.declared.route.Route.{Route}
 use Rattle.net_defs.specs.Network.{Network, IsFabric}
-use Rattle.link_defs.specs.Links.{is_idle}
+use Rattle.world_defs.specs.Links.{is_idle}
 use Rattle.map_defs.specs.NetMap.{NetMap, IsMap, hosts_of}
 use Rattle.map_defs.specs.Orientation.{order_of}
 use Rattle.map_defs.specs.Routing.{AreRoutesOf}
 use Rattle.map_defs.specs.Sameness.{IsMapOfPart}
-use Rattle.cable_history.specs.History.{CableHistory, fabric_at}
+use Rattle.world_defs.specs.History.{CableHistory, fabric_at}
 use Rattle.world_defs.specs.World.{last_count, node_at, adopted_by}
 use Rattle.world_defs.specs.Asking.{all_given_up}
 use Rattle.run_defs.specs.declared.command.Command.{Command}

@@ -2,7 +2,7 @@
 use Rattle.std.specs.Prelude.{◌≡◌, ℕ, ◌+◌, ◌<◌, ◌≤◌, List, ◌∷◌, length}
 use Rattle.std.specs.List.{AllByRecursion}
 use Rattle.net_defs.specs.Network.{Network, IsFabric}
-use Rattle.cable_history.specs.History.{fabric_at}
+use Rattle.world_defs.specs.History.{fabric_at}
 use Rattle.world_defs.specs.World.{last_count}
 use Rattle.world_defs.specs.Settle.{unacknowledged_in}
 use Rattle.world_defs.specs.Settled.{IsSettled}

@@ -2,7 +2,7 @@
 use Rattle.std.proofs.Common.{◌≡◌, ◌<◌, ◌≤◌, ◌+◌, ◌-◌, ◌^◌, ℕ, ℤ, Bool, true, false, List, [], ◌∷◌, map, length, min, refl, sym, ◌∙◌, ap, subst, arith, if◌then◌else◌}
 use Rattle.fab_outer.specs.Fault.{one_more}
 use Rattle.journal_defs.specs.declared.entry.Entry.{Entry}
-use Rattle.cable_history.specs.History.{fabric_at}
+use Rattle.world_defs.specs.History.{fabric_at}
 use Rattle.map_defs.specs.NetMap.{NetMap}
 use Rattle.map_canon.specs.Printing.{AreOfFabric}
 use Rattle.world_defs.specs.World.{WorldState, fabric_of}

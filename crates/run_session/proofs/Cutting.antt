@@ -2,7 +2,7 @@
 use Rattle.std.proofs.Common.{◌≡◌, ℕ, ◌≤◌, true, false, Option, refl}
 use Rattle.net_defs.specs.declared.vertex.Vertex.TheVariants.{Host}
 use Rattle.net_defs.specs.Network.{has_vertex}
-use Rattle.link_defs.specs.Links.{is_idle}
+use Rattle.world_defs.specs.Links.{is_idle}
 use Rattle.world_defs.specs.World.{WorldState, fabric_of}
 use Rattle.run_defs.specs.declared.command.Command.{Command}
 use Rattle.run_defs.specs.declared.command.Command.TheVariants.{Map}

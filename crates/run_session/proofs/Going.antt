@@ -5,11 +5,11 @@ use Rattle.std.specs.List.{AllByRecursion}
 use Rattle.net_defs.specs.declared.route.Route.{Route}
 use Rattle.net_defs.specs.declared.vertex.Vertex.TheVariants.{Host}
 use Rattle.net_defs.specs.Network.{Network, has_vertex}
-use Rattle.cable_history.specs.History.{CableHistory, fabric_at}
-use Rattle.cable_history.specs.Later.{IsLater, OnlyPulled}
-use Rattle.cable_history.proofs.Later.{later-kept, later-past, pulled-later}
-use Rattle.cable_history.proofs.Now.{last_is_now}
-use Rattle.link_defs.specs.Links.{empty_links}
+use Rattle.world_defs.specs.History.{CableHistory, fabric_at}
+use Rattle.world_defs.specs.Later.{IsLater, OnlyPulled}
+use Rattle.world_defs.proofs.CablesLater.{later-kept, later-past, pulled-later}
+use Rattle.world_defs.proofs.Now.{last_is_now}
+use Rattle.world_defs.specs.Links.{empty_links}
 use Rattle.map_defs.specs.declared.vertex.MapVertex.{MapVertex}
 use Rattle.map_defs.specs.declared.vertex.MapVertex.TheVariants.{Host as MapHost, Switch as MapSwitch}
 use Rattle.map_defs.specs.NetMap.{NetMap}

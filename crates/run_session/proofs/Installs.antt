@@ -1,7 +1,7 @@
 -- That an installation of the last routes is told, and so obeyed.
 use Rattle.std.proofs.Common.{◌≡◌, ◌≢◌, ◌⊎◌, ℕ, ◌∷◌, [], List, length, map, Bool, true, false, true≢false, not, ◌&&◌, nat_eq, Option, Some, None, inl, inr, refl, sym, ◌∙◌, ap, subst, arith, if◌then◌else◌}
-use Rattle.link_defs.specs.Links.{is_idle}
-use Rattle.cable_history.specs.Later.{OnlyPulled}
+use Rattle.world_defs.specs.Links.{is_idle}
+use Rattle.world_defs.specs.Later.{OnlyPulled}
 use Rattle.std.proofs.lemmas.Bool.Decides.{Decides-eqb, nat_tests}
 use Rattle.std.proofs.lemmas.Option.{same_Some}
 use Rattle.world_defs.specs.World.{WorldState, fabric_of, may_adopt, adopted_by}

@@ -1,8 +1,8 @@
 -- That a session keeps maps and routes that were right.
 use Rattle.std.proofs.Common.{◌≡◌, ℕ, ◌≤◌, true, List, length, Option, Some, None, refl, sym, ◌∙◌, ap, subst, arith}
-use Rattle.cable_history.specs.History.{CableHistory, fabric_at}
+use Rattle.world_defs.specs.History.{CableHistory, fabric_at}
 use Rattle.net_defs.specs.declared.route.Route.{Route}
-use Rattle.link_defs.specs.Links.{is_idle}
+use Rattle.world_defs.specs.Links.{is_idle}
 use Rattle.net_defs.specs.declared.vertex.Vertex.TheVariants.{Host}
 use Rattle.net_defs.specs.Network.{Network, has_vertex}
 use Rattle.map_defs.specs.NetMap.{NetMap, IsConnected, switches_of}

@@ -1,7 +1,7 @@
 -- Where memory runs out in a session no refusal is hidden: a refused command lacks only its line's text.
 use Rattle.std.proofs.Common.{◌≡◌, ℕ, ◌∷◌, [], map, true, false, Option, Some, None, option_map, refl, sym, ◌∙◌, ap, if◌then◌else◌}
 use Rattle.std.specs.Prelude.{min, length}
-use Rattle.link_defs.specs.Links.{is_idle}
+use Rattle.world_defs.specs.Links.{is_idle}
 use Rattle.duo_defs.specs.declared.effect.DuoEffect.{DuoEffect}
 use Rattle.duo_defs.specs.declared.event.DuoEvent.{DuoEvent}
 use Rattle.duo_defs.specs.Duo.{DuoState}

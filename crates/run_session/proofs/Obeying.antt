@@ -1,7 +1,7 @@
 -- That each command is obeyed, by what it printed.
 use Rattle.std.proofs.Common.{◌≡◌, ℕ, min, ◌∷◌, [], List, length, Option, Some, None, true, false, refl, sym, ◌∙◌, ap, if◌then◌else◌}
-use Rattle.cable_history.specs.Later.{OnlyPulled}
-use Rattle.link_defs.specs.Links.{is_idle}
+use Rattle.world_defs.specs.Later.{OnlyPulled}
+use Rattle.world_defs.specs.Links.{is_idle}
 use Rattle.map_defs.specs.Orientation.{order_of}
 use Rattle.map_defs.specs.Routing.{AreRoutesOf}
 use Rattle.world_defs.specs.World.{WorldState, fabric_of, last_count}

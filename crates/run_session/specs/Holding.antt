@@ -1,7 +1,7 @@
 -- What a session's parts hold: the world of its slot, which is empty only while a map is made, and the links of walks.
 use Rattle.std.specs.Prelude.{◌≡◌, ◌≤◌, [], Option, Some, None}
-use Rattle.cable_history.specs.History.{CableHistory, fabric_at}
-use Rattle.link_defs.specs.Links.{empty_links}
+use Rattle.world_defs.specs.History.{CableHistory, fabric_at}
+use Rattle.world_defs.specs.Links.{empty_links}
 use Rattle.world_defs.specs.World.{WorldState, new_world}
 use Rattle.run_session.specs.declared.walking.WalkLinks.{WalkLinks}
 

@@ -1,7 +1,7 @@
 -- What a session keeps of maps and routes: a last map that says complete was one to compute routes of, and the last
 -- routes were those of such a map, in the fabric as it stood when that map began.
 use Rattle.std.specs.Prelude.{◌≡◌, ℕ, ◌≤◌, Option, Some}
-use Rattle.cable_history.specs.History.{CableHistory, fabric_at}
+use Rattle.world_defs.specs.History.{CableHistory, fabric_at}
 use Rattle.world_defs.specs.World.{WorldState}
 use Rattle.run_defs.specs.Session.{SessionState, LastMap, LastRoutes, complete_map}
 use Rattle.promise_laws.specs.OneAction.{VerticesStay}

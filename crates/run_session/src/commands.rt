@@ -1,7 +1,7 @@
 //! Every command of the fabric that makes no map, over the parts of a session.
 
 ghost use Rattle.std.specs.Prelude.{◌≡◌, ℕ, false, IfErr, OnOk, OnErr};
-ghost use Rattle.link_defs.specs.Links.{is_idle};
+ghost use Rattle.world_defs.specs.Links.{is_idle};
 ghost use Rattle.world_defs.specs.World.{fabric_of};
 ghost use Rattle.run_defs.specs.declared.command.Command.TheVariants.{Map};
 ghost use Rattle.run_defs.specs.Duos.{IsOther};

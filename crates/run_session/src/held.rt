@@ -1,7 +1,7 @@
 //! What a session holds, behind its box.
 
 ghost use Rattle.std.specs.Prelude.{◌≡◌, true, Option, Some, None, option_map, IfErr, OnOk, OnErr};
-ghost use Rattle.link_defs.specs.Links.{is_idle};
+ghost use Rattle.world_defs.specs.Links.{is_idle};
 ghost use Rattle.world_defs.specs.World.{fabric_of};
 ghost use Rattle.run_defs.specs.Duos.{beside, IsOther};
 ghost use Rattle.run_defs.specs.Session.{LastRoutes};

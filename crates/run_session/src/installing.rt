@@ -2,7 +2,7 @@
 
 ghost use Rattle.std.specs.Prelude.{◌≡◌, ◌≤◌, ◌∷◌, [], true, Option, Some, None, if◌then◌else◌};
 ghost use Rattle.std.specs.Prelude.{IfErr, OnOk, OnErr};
-ghost use Rattle.link_defs.specs.Links.{is_idle};
+ghost use Rattle.world_defs.specs.Links.{is_idle};
 ghost use Rattle.world_defs.specs.World.{fabric_of, may_adopt};
 ghost use Rattle.run_defs.specs.Output.{OneLine};
 ghost use Rattle.run_defs.specs.Outcome.{adopt_cause, install as install_deed, may_install, refusal_cause};

@@ -2,8 +2,8 @@
 
 ghost use Rattle.std.specs.Prelude.{◌≡◌, ◌≤◌, ◌<◌, ◌^◌, ◌∷◌, [], ℕ, true, false, Option, Some, IfOk};
 ghost use Rattle.std.specs.Prelude.{IfSome, IfNone, IfErr, OnOk, OnErr};
-ghost use Rattle.link_defs.specs.Links.{is_idle};
-ghost use Rattle.cable_history.specs.History.{fabric_at};
+ghost use Rattle.world_defs.specs.Links.{is_idle};
+ghost use Rattle.world_defs.specs.History.{fabric_at};
 ghost use Rattle.world_defs.specs.World.{fabric_of};
 ghost use Rattle.map_canon.specs.Printing.{AreOfFabric};
 ghost use Rattle.run_defs.specs.Output.{OneLine};

@@ -2,7 +2,7 @@
 
 ghost use Rattle.std.specs.Prelude.{◌≡◌, ◌≤◌, length, All, IfOk, IfErr, OnOk};
 ghost use Rattle.net_defs.specs.Turn.{IsTurn};
-ghost use Rattle.link_defs.specs.Links.{empty_links};
+ghost use Rattle.world_defs.specs.Links.{empty_links};
 ghost use Rattle.world_defs.specs.World.{fabric_of};
 ghost use Rattle.run_defs.specs.declared.command.Command.TheVariants.{Walk};
 ghost use Rattle.world_commands.specs.Cut.{IsLeft};

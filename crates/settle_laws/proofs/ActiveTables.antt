@@ -2,7 +2,7 @@
 use Rattle.std.proofs.Common.{◌≡◌, ℕ, Bool, true, false, List, [], nat_eq, Option, Some, None, is_some, refl, ap, ◌∙◌, if◌then◌else◌}
 use Rattle.gm_defs.specs.declared.token.Took.{Took}
 use Rattle.gm_defs.specs.Body.{part_in}
-use Rattle.mapper_bodies.specs.Mapping.{RouteEntry, RoutePart}
+use Rattle.world_defs.specs.Mapping.{RouteEntry, RoutePart}
 use Rattle.world_defs.specs.declared.event.Event.{Event}
 use Rattle.world_defs.specs.declared.event.Event.TheVariants.{Revoke}
 use Rattle.world_defs.specs.declared.effect.Effect.{Effect}

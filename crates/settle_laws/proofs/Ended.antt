@@ -4,11 +4,11 @@ use Rattle.std.specs.List.{AllByRecursion}
 use Rattle.std.proofs.lemmas.Bool.Decides.{nat_tests}
 use Rattle.std.specs.Option.{option_map_or}
 use Rattle.std.proofs.lemmas.Option.{same_Some}
-use Rattle.cable_history.specs.Crossed.{is_new}
-use Rattle.link_defs.specs.declared.replayed.Replayed.{Replayed}
-use Rattle.link_defs.specs.declared.replayed.Replayed.TheVariants.{Back, Busy, Unknown}
-use Rattle.link_defs.specs.Links.{LinkState, is_idle}
-use Rattle.link_defs.specs.Fault.{replay}
+use Rattle.world_defs.specs.Crossed.{is_new}
+use Rattle.world_defs.specs.declared.replayed.Replayed.{Replayed}
+use Rattle.world_defs.specs.declared.replayed.Replayed.TheVariants.{Back, Busy, Unknown}
+use Rattle.world_defs.specs.Links.{LinkState, is_idle}
+use Rattle.world_defs.specs.Fault.{replay}
 use Rattle.world_defs.specs.declared.event.Event.TheVariants.{Inject, Replay, GiveUp}
 use Rattle.world_defs.specs.declared.effect.Effect.{Effect}
 use Rattle.world_defs.specs.declared.effect.Effect.TheVariants.{Idle}

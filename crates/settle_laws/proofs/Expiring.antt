@@ -17,9 +17,8 @@ use Rattle.world_defs.specs.Settle.{expiries_of, expiries_of_all, expiries}
 use Rattle.world_defs.specs.Traffic.{sender_on}
 use Rattle.world_defs.proofs.Lanes.{lane-within}
 use Rattle.world_laws.proofs.Lists.{at-set}
-use Rattle.world_defs.proofs.LogRows.{all-map, all-append}
+use Rattle.world_defs.proofs.LogRows.{all-map, all-append, after_all-append}
 use Rattle.world_laws.proofs.Along.{Along, after_all-along}
-use Rattle.world_defs.proofs.LogRows.{after_all-append}
 
 abbrev pub IsExpiry : Event → Type 0
 IsExpiry (Expire h peer) = Unit {0}

@@ -4,7 +4,7 @@ use Rattle.std.specs.Prelude.{slice_get}
 use Rattle.std.specs.List.{AllByRecursion}
 use Rattle.std.proofs.lemmas.Option.{same_Some}
 use Rattle.net_defs.specs.Network.{Network}
-use Rattle.cable_history.specs.Crossed.{life_channels}
+use Rattle.world_defs.specs.Crossed.{life_channels}
 use Rattle.gm_defs.specs.declared.message.Message.{Message}
 use Rattle.gm_defs.specs.declared.frame.ConnectionKey.{ConnectionKey}
 use Rattle.gm_defs.specs.Body.{message_limit, prio_limit}

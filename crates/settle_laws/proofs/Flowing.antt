@@ -2,7 +2,7 @@
 use Rattle.std.proofs.Common.{◌≡◌, inl, inr, subst, arith}
 use Rattle.net_defs.specs.Network.{Network}
 use Rattle.world_defs.specs.Traffic.{IsLawfulTraffic}
-use Rattle.link_defs.specs.Links.{Held}
+use Rattle.world_defs.specs.Links.{Held}
 use Rattle.world_defs.specs.World.{WorldState, epoch_of}
 use Rattle.world_defs.specs.Acts.{IsReached}
 use Rattle.table_laws.proofs.Dependencies.{links-of_epoch}

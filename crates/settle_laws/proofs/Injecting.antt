@@ -5,11 +5,11 @@ use Rattle.std.proofs.lemmas.List.{get_or-set_other}
 use Rattle.std.proofs.lemmas.Option.{same_Some}
 use Rattle.net_defs.specs.Network.{Network}
 use Rattle.net_defs.specs.Route.{host_port}
-use Rattle.cable_history.specs.Crossed.{leaving}
-use Rattle.cable_history.proofs.ForLife.{leaving_has_its_end}
+use Rattle.world_defs.specs.Crossed.{leaving}
+use Rattle.world_defs.proofs.ForLife.{leaving_has_its_end}
 use Rattle.packet_defs.specs.declared.kind.Kind.TheVariants.{Gm}
 use Rattle.packet_defs.specs.Packet.{packet_of}
-use Rattle.link_defs.specs.Links.{Held, packet_in, with_packet}
+use Rattle.world_defs.specs.Links.{Held, packet_in, with_packet}
 use Rattle.gm_defs.specs.declared.frame.FrameHead.{FrameHead}
 use Rattle.gm_defs.specs.declared.frame.ConnectionKey.{ConnectionKey}
 use Rattle.gm_defs.specs.Body.{frame_bytes, ack_bytes}

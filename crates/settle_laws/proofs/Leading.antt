@@ -6,16 +6,16 @@ use Rattle.net_defs.specs.declared.vertex.End.{End}
 use Rattle.net_defs.specs.Network.{ports_of}
 use Rattle.packet_defs.specs.declared.kind.Kind.TheVariants.{Gm}
 use Rattle.packet_defs.specs.Packet.{packet_of}
-use Rattle.link_defs.specs.declared.moved.Why.TheVariants.{NewCable}
-use Rattle.link_defs.specs.Kinds.{is_mapping}
-use Rattle.link_defs.specs.declared.moved.Course.TheVariants.{Arrives, Enters, Drops}
-use Rattle.link_defs.specs.declared.turned.Turned.{Turned}
-use Rattle.link_defs.specs.declared.turned.Turned.TheVariants.{Out, OutOfRange as TurnedTooFar, NotRoute as NoTurn}
-use Rattle.cable_history.specs.History.{CableHistory, fabric_now}
-use Rattle.cable_history.specs.Crossed.{leaving, life_channels, life_head, is_new}
-use Rattle.cable_history.proofs.ForLife.{leaving_has_its_end}
-use Rattle.link_defs.specs.Switch.{aim}
-use Rattle.link_defs.specs.Advance.{course, course_by_channel, course_out, course_at, course_into}
+use Rattle.world_defs.specs.declared.moved.Why.TheVariants.{NewCable}
+use Rattle.world_defs.specs.Kinds.{is_mapping}
+use Rattle.world_defs.specs.declared.moved.Course.TheVariants.{Arrives, Enters, Drops}
+use Rattle.world_defs.specs.declared.turned.Turned.{Turned}
+use Rattle.world_defs.specs.declared.turned.Turned.TheVariants.{Out, OutOfRange as TurnedTooFar, NotRoute as NoTurn}
+use Rattle.world_defs.specs.History.{CableHistory, fabric_now}
+use Rattle.world_defs.specs.Crossed.{leaving, life_channels, life_head, is_new}
+use Rattle.world_defs.proofs.ForLife.{leaving_has_its_end}
+use Rattle.world_defs.specs.Switch.{aim}
+use Rattle.world_defs.specs.Advance.{course, course_by_channel, course_out, course_at, course_into}
 
 -- from a channel on, these turns lead a packet of this payload to a host
 abbrev pub LeadsTo : CableHistory → List ℕ → ℕ → List ℤ → ℕ → Type 0

@@ -1,7 +1,7 @@
 -- One pass in which no planned fault strikes: what may be on its way in it comes before its end.
 use Rattle.std.proofs.Common.{◌≡◌, ◌≤◌, ℕ, true, List, [], ◌∷◌, map, Some, None, refl, sym, ap, ◌∙◌, subst, arith}
 use Rattle.net_defs.specs.Network.{Network}
-use Rattle.link_defs.specs.Links.{is_idle}
+use Rattle.world_defs.specs.Links.{is_idle}
 use Rattle.gm_defs.specs.Fragment.{Fragment as FragmentOf}
 use Rattle.gm_defs.specs.declared.frame.ConnectionKey.{ConnectionKey}
 use Rattle.world_defs.specs.declared.event.Event.{Event}

@@ -4,7 +4,7 @@ use Rattle.std.specs.List.{list_all}
 use Rattle.std.proofs.lemmas.Option.{same_Some}
 use Rattle.packet_defs.specs.declared.kind.Kind.TheVariants.{Gm}
 use Rattle.packet_defs.specs.Packet.{packet_of}
-use Rattle.link_defs.specs.Links.{Held, LinkState, packet_in, with_packet, is_idle}
+use Rattle.world_defs.specs.Links.{Held, LinkState, packet_in, with_packet, is_idle}
 use Rattle.gm_defs.specs.Body.{frame_bytes, ack_bytes}
 use Rattle.gm_defs.specs.Connection.{ack_on}
 use Rattle.world_defs.specs.declared.effect.Effect.{Effect}

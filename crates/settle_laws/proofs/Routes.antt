@@ -7,10 +7,10 @@ use Rattle.std.proofs.lemmas.Option.{same_Some}
 use Rattle.net_defs.specs.declared.place.Place.TheVariants.{Host as AtHostPlace}
 use Rattle.net_defs.specs.declared.route.Route.{Route}
 use Rattle.net_defs.specs.Network.{Network}
-use Rattle.cable_history.specs.History.{fabric_at}
+use Rattle.world_defs.specs.History.{fabric_at}
 use Rattle.net_defs.specs.Turn.{is_turn, IsTurn}
 use Rattle.net_defs.specs.Route.{place}
-use Rattle.mapper_bodies.specs.Mapping.{RouteEntry}
+use Rattle.world_defs.specs.Mapping.{RouteEntry}
 use Rattle.gm_defs.proofs.Choices.{both}
 use Rattle.world_defs.specs.Table.{Adoption, ActiveTable, TableState, at_in, entries_from, table_route}
 use Rattle.world_defs.specs.Traffic.{routes_in, adopted_routes}

@@ -3,8 +3,8 @@ use Rattle.std.proofs.Common.{◌≡◌, ◌≢◌, ◌<◌, ◌≤◌, ℕ, Boo
 use Rattle.std.specs.Prelude.{slice_get}
 use Rattle.std.proofs.lemmas.Bool.Decides.{nat_tests}
 use Rattle.net_defs.specs.Network.{Network}
-use Rattle.cable_history.specs.History.{CableHistory, fabric_at}
-use Rattle.link_defs.specs.Links.{is_idle}
+use Rattle.world_defs.specs.History.{CableHistory, fabric_at}
+use Rattle.world_defs.specs.Links.{is_idle}
 use Rattle.gm_defs.specs.Fragment.{Fragment as FragmentOf, fragments, whole_below}
 use Rattle.gm_defs.specs.declared.frame.ConnectionKey.{ConnectionKey}
 use Rattle.world_defs.specs.Table.{table_route}

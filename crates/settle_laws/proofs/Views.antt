@@ -1,18 +1,18 @@
 -- What an advance and an injection make of a world, case by case.
 use Rattle.std.proofs.Common.{◌≡◌, ◌≤◌, ◌+◌, ℕ, Bool, true, false, List, set, Option, Some, None, is_some, refl, ap, ◌∙◌, arith, if◌then◌else◌}
 use Rattle.net_defs.specs.Route.{host_port}
-use Rattle.cable_history.specs.Crossed.{leaving}
+use Rattle.world_defs.specs.Crossed.{leaving}
 use Rattle.packet_defs.specs.Packet.{stripped}
-use Rattle.link_defs.specs.declared.moved.Why.{Why}
-use Rattle.link_defs.specs.declared.moved.Course.TheVariants.{Arrives, Enters, Drops}
-use Rattle.link_defs.specs.Links.{Held, LinkState, packet_in, with_packet, emptied, put}
+use Rattle.world_defs.specs.declared.moved.Why.{Why}
+use Rattle.world_defs.specs.declared.moved.Course.TheVariants.{Arrives, Enters, Drops}
+use Rattle.world_defs.specs.Links.{Held, LinkState, packet_in, with_packet, emptied, put}
 use Rattle.world_defs.specs.declared.event.Event.TheVariants.{Inject, Advance}
 use Rattle.world_defs.specs.declared.effect.Effect.{Effect}
 use Rattle.world_defs.specs.declared.effect.Effect.TheVariants.{Idle, Injected}
 use Rattle.world_defs.specs.Node.{Outgoing, to_send, packet_for}
 use Rattle.world_defs.specs.Hearing.{hear}
 use Rattle.world_defs.specs.World.{WorldState, host_count, node_at, keeps_out}
-use Rattle.link_defs.specs.Advance.{course}
+use Rattle.world_defs.specs.Advance.{course}
 use Rattle.world_defs.specs.Step.{planned_strikes, sent_out, step}
 use Rattle.world_defs.proofs.Views.{LinksChange, Change, view}
 use Rattle.world_defs.proofs.Strikes.{Strike, strike_view}

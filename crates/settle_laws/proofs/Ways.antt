@@ -7,12 +7,12 @@ use Rattle.std.proofs.lemmas.Option.{same_Some}
 use Rattle.packet_defs.specs.declared.kind.Kind.TheVariants.{Gm}
 use Rattle.packet_defs.specs.Packet.{stripped, packet_of}
 use Rattle.packet_defs.proofs.Packets.{packet_of-stripped}
-use Rattle.link_defs.specs.declared.moved.Course.TheVariants.{Arrives, Enters, Drops}
-use Rattle.link_defs.specs.declared.moved.Why.{Why}
-use Rattle.cable_history.specs.Crossed.{life_channels}
-use Rattle.link_defs.specs.Links.{Held, LinkState, packet_in, with_packet, emptied}
-use Rattle.link_defs.specs.Shape.{IsLinks}
-use Rattle.link_defs.specs.Advance.{course}
+use Rattle.world_defs.specs.declared.moved.Course.TheVariants.{Arrives, Enters, Drops}
+use Rattle.world_defs.specs.declared.moved.Why.{Why}
+use Rattle.world_defs.specs.Crossed.{life_channels}
+use Rattle.world_defs.specs.Links.{Held, LinkState, packet_in, with_packet, emptied}
+use Rattle.world_defs.specs.Shape.{IsLinks}
+use Rattle.world_defs.specs.Advance.{course}
 use Rattle.world_defs.specs.Hearing.{hear}
 use Rattle.world_defs.specs.World.{WorldState, host_count, node_at}
 use Rattle.world_laws.proofs.Lists.{at-set}

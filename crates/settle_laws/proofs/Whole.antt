@@ -11,19 +11,19 @@ use Rattle.net_defs.specs.declared.route.Route.{Route}
 use Rattle.net_defs.specs.Network.{Network, ports_of, far}
 use Rattle.net_defs.specs.Turn.{IsTurn}
 use Rattle.net_defs.specs.Route.{entered_after, place, place_at, place_at_vertex, leaving_port, host_port}
-use Rattle.cable_history.specs.History.{CableHistory, IsHistory, fabric_now}
-use Rattle.cable_history.specs.Crossed.{channel_by, channels_by, channels_at, leaving, life_head, is_new, is_cut}
-use Rattle.cable_history.proofs.Fewer.{none-far}
-use Rattle.cable_history.proofs.ForLife.{leaving_over}
+use Rattle.world_defs.specs.History.{CableHistory, IsHistory, fabric_now}
+use Rattle.world_defs.specs.Crossed.{channel_by, channels_by, channels_at, leaving, life_head, is_new, is_cut}
+use Rattle.world_defs.proofs.Fewer.{none-far}
+use Rattle.world_defs.proofs.ForLife.{leaving_over}
 use Rattle.packet_defs.specs.declared.kind.Kind.TheVariants.{Gm}
 use Rattle.packet_defs.specs.Packet.{packet_of, front_turn}
 use Rattle.packet_defs.proofs.Packets.{packet_of-front}
-use Rattle.link_defs.specs.declared.moved.Course.TheVariants.{Arrives, Enters, Drops}
-use Rattle.link_defs.specs.declared.moved.Why.TheVariants.{NewCable}
-use Rattle.link_defs.specs.Kinds.{is_mapping}
-use Rattle.link_defs.specs.Switch.{out_by, aim_of}
-use Rattle.link_defs.specs.Advance.{course, course_by_channel, course_out, course_at, course_into}
-use Rattle.mapper_bodies.specs.Mapping.{RouteEntry}
+use Rattle.world_defs.specs.declared.moved.Course.TheVariants.{Arrives, Enters, Drops}
+use Rattle.world_defs.specs.declared.moved.Why.TheVariants.{NewCable}
+use Rattle.world_defs.specs.Kinds.{is_mapping}
+use Rattle.world_defs.specs.Switch.{out_by, aim_of}
+use Rattle.world_defs.specs.Advance.{course, course_by_channel, course_out, course_at, course_into}
+use Rattle.world_defs.specs.Mapping.{RouteEntry}
 use Rattle.gm_defs.specs.declared.frame.ConnectionKey.{ConnectionKey}
 use Rattle.world_defs.specs.Table.{at_in, route_of, table_route, entries_from}
 use Rattle.world_defs.specs.Traffic.{adopted_routes, route_channels, is_cut_walk, is_broken}

@@ -1,5 +1,5 @@
 -- What a world must be for a settle to end settled.
-use Rattle.cable_history.specs.History.{fabric_at}
+use Rattle.world_defs.specs.History.{fabric_at}
 use Rattle.world_defs.specs.World.{WorldState}
 use Rattle.world_defs.specs.Acts.{IsReached}
 

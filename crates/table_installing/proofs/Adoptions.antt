@@ -4,8 +4,8 @@ use Rattle.std.specs.Prelude.{is_none, IfSome}
 use Rattle.std.specs.List.{list_any}
 use Rattle.net_defs.specs.declared.route.Route.{Route}
 use Rattle.net_defs.specs.Network.{Network}
-use Rattle.link_defs.specs.Links.{LinkState, is_idle}
-use Rattle.link_defs.specs.Fault.{accept}
+use Rattle.world_defs.specs.Links.{LinkState, is_idle}
+use Rattle.world_defs.specs.Fault.{accept}
 use Rattle.world_defs.specs.Table.{Adoption}
 use Rattle.world_defs.specs.World.{WorldState, keeps_epoch, standing_of, may_adopt, adoption_of, adopted_by}
 use Rattle.world_defs.specs.Acts.{IsReached}

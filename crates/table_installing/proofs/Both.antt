@@ -3,8 +3,8 @@ use Rattle.std.proofs.Common.{◌≡◌, ◌<◌, ◌⊎◌, ℕ, List, length, 
 use Rattle.std.specs.Prelude.{true, IfOk, IfSome, OnOk, OnErr}
 use Rattle.net_defs.specs.declared.route.Route.{Route}
 use Rattle.net_defs.specs.Refusal.{Refuses}
-use Rattle.cable_history.specs.Later.{OnlyPulled}
-use Rattle.link_defs.specs.Links.{is_idle}
+use Rattle.world_defs.specs.Later.{OnlyPulled}
+use Rattle.world_defs.specs.Links.{is_idle}
 use Rattle.world_defs.specs.Log.{Log}
 use Rattle.world_defs.specs.Logs as log
 use Rattle.world_defs.specs.Row.{IsPartWay}

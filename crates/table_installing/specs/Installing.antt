@@ -4,7 +4,7 @@ use Rattle.std.specs.Prelude.{IfSome, IsSome, if◌then◌else◌}
 use Rattle.std.specs.List.{filter, list_any}
 use Rattle.net_defs.specs.declared.route.Route.{Route}
 use Rattle.net_defs.specs.Network.{Network}
-use Rattle.link_defs.specs.Links.{is_idle}
+use Rattle.world_defs.specs.Links.{is_idle}
 use Rattle.world_defs.specs.Table.{Adoption, has_revoked}
 use Rattle.world_defs.specs.World.{WorldState, host_count, node_at, may_adopt, adoption_of, adopted_by}
 use Rattle.world_defs.specs.Acts.{IsReached}

@@ -3,8 +3,8 @@
 ghost use Rattle.std.specs.Prelude.{◌≡◌, ◌≤◌, ◌<◌, ◌⊎◌, ℕ, true, length, nat_eq, IfOk, IfSome, OnOk, OnErr};
 ghost use Rattle.std.specs.List.{list_any};
 ghost use Rattle.net_defs.specs.Refusal.{Refuses};
-ghost use Rattle.cable_history.specs.Later.{OnlyPulled};
-ghost use Rattle.link_defs.specs.Links.{is_idle};
+ghost use Rattle.world_defs.specs.Later.{OnlyPulled};
+ghost use Rattle.world_defs.specs.Links.{is_idle};
 ghost use Rattle.world_defs.specs.World.{fabric_of, host_count, last_count, standing_of, adoption_of, adopted_by};
 ghost use Rattle.world_defs.specs.Logs as log;
 ghost use Rattle.world_defs.specs.Row.{IsPartWay};

@@ -2,8 +2,8 @@
 
 ghost use Rattle.std.specs.Prelude.{◌≡◌, ◌≤◌, ◌<◌, true, length, Some, option_map, is_some, IfOk, IfSome, OnOk, OnErr};
 ghost use Rattle.std.specs.List.{AllByRecursion};
-ghost use Rattle.cable_history.specs.Later.{OnlyPulled};
-ghost use Rattle.link_defs.specs.Links.{is_idle};
+ghost use Rattle.world_defs.specs.Later.{OnlyPulled};
+ghost use Rattle.world_defs.specs.Links.{is_idle};
 ghost use Rattle.world_defs.specs.Table.{Adoption};
 ghost use Rattle.world_defs.specs.World.{host_count, last_count};
 ghost use Rattle.world_defs.specs.Log.{came_to};

@@ -6,11 +6,11 @@ use Rattle.std.proofs.lemmas.Option.{same_Some}
 use Rattle.net_defs.specs.declared.route.Route.{Route}
 use Rattle.net_defs.specs.Network.{Network}
 use Rattle.net_defs.specs.Route.{host_port}
-use Rattle.cable_history.specs.History.{CableHistory, fabric_at, stood_at}
-use Rattle.cable_history.specs.Crossed.{channels_at}
-use Rattle.cable_history.proofs.Standing.{compact, channels-compact}
+use Rattle.world_defs.specs.History.{CableHistory, fabric_at, stood_at}
+use Rattle.world_defs.specs.Crossed.{channels_at}
+use Rattle.world_defs.proofs.CablesStanding.{compact, channels-compact}
 use Rattle.packet_defs.specs.declared.kind.Kind.{Kind}
-use Rattle.mapper_bodies.specs.Mapping.{RouteEntry}
+use Rattle.world_defs.specs.Mapping.{RouteEntry}
 use Rattle.net_defs.specs.Dependencies.{IsNext, IsBefore, HasNoCycle}
 use Rattle.net_defs.proofs.Cycles.{no_cycle-rising}
 use Rattle.world_defs.specs.Table.{Adoption, ActiveTable, at_in, entries_from}

@@ -1,15 +1,15 @@
 -- What holds of each packet, and stays with moves and flips, holds after every act, if it holds of what is injected once that counts as sent.
 use Rattle.std.proofs.Common.{◌≡◌, ◌<◌, ◌+◌, ℕ, Bool, true, false, if◌then◌else◌, List, set, Some, None, IfSome, Ok, refl, sym, ap, ◌∙◌, subst}
 use Rattle.net_defs.specs.Route.{host_port}
-use Rattle.cable_history.specs.Crossed.{leaving}
+use Rattle.world_defs.specs.Crossed.{leaving}
 use Rattle.packet_defs.specs.declared.kind.Kind.{Kind}
 use Rattle.packet_defs.specs.Packet.{difference}
 use Rattle.packet_defs.specs.Host.{decode}
 use Rattle.packet_defs.proofs.Packets.{packet_of-difference}
-use Rattle.link_defs.specs.Links.{Held, LinkState, packet_in}
-use Rattle.link_defs.specs.Fault.{accept}
-use Rattle.link_defs.specs.Step.{Step, Put as PutLinks, Advance as AdvanceLinks}
-use Rattle.link_defs.proofs.Shapes.{stepped-cables}
+use Rattle.world_defs.specs.Links.{Held, LinkState, packet_in}
+use Rattle.world_defs.specs.Fault.{accept}
+use Rattle.world_defs.specs.LinkStep.{Step, Put as PutLinks, Advance as AdvanceLinks}
+use Rattle.world_defs.proofs.Shapes.{stepped-cables}
 use Rattle.world_defs.specs.declared.event.Event.{Event}
 use Rattle.world_defs.specs.declared.effect.Effect.{Effect}
 use Rattle.world_defs.specs.declared.fault.Fault.{Fault}

@@ -18,21 +18,21 @@ use Rattle.packet_defs.specs.Burst.{flipped, may_flip}
 use Rattle.packet_defs.proofs.Packets.{strip_keeps, head-push, packet_of-stripped}
 use Rattle.packet_defs.proofs.Bursts.{flip-seen}
 use Rattle.packet_defs.proofs.Hosts.{decode-packet_of, decode-difference}
-use Rattle.link_defs.specs.declared.moved.Course.{Course}
-use Rattle.link_defs.specs.declared.moved.Course.TheVariants.{Arrives, Enters, Drops}
-use Rattle.link_defs.specs.declared.replayed.Replayed.TheVariants.{Back, Busy}
+use Rattle.world_defs.specs.declared.moved.Course.{Course}
+use Rattle.world_defs.specs.declared.moved.Course.TheVariants.{Arrives, Enters, Drops}
+use Rattle.world_defs.specs.declared.replayed.Replayed.TheVariants.{Back, Busy}
 use Rattle.net_defs.specs.declared.vertex.End.{End}
-use Rattle.cable_history.specs.History.{CableHistory, first_history, may_plug, with_plugged}
-use Rattle.cable_history.specs.Crossed.{leaving, life_channels, life_head}
-use Rattle.link_defs.specs.Links.{Held, Caught, LinkState, empty_links, packet_in, with_packet, emptied, put}
-use Rattle.link_defs.specs.Advance.{course, entered, gone_on, advance_of}
-use Rattle.link_defs.specs.Fault.{repeat_of, hold_of, is_used_up, with_caught, flip_of, caught_as, released, replay_of, pull_by, plug}
-use Rattle.link_defs.specs.Step.{Step, Put, Advance, Lose, Reset, Repeat, Hold, Flip, Replay, Pull, Plug, Accept, stepped}
-use Rattle.link_defs.specs.Mark.{Tells}
-use Rattle.link_defs.proofs.Idling.{pick}
-use Rattle.link_defs.proofs.HopsLeft.{course_into-enters}
-use Rattle.link_defs.proofs.LonePackets.{get-empty}
-use Rattle.link_defs.proofs.Shapes.{all-removed}
+use Rattle.world_defs.specs.History.{CableHistory, first_history, may_plug, with_plugged}
+use Rattle.world_defs.specs.Crossed.{leaving, life_channels, life_head}
+use Rattle.world_defs.specs.Links.{Held, Caught, LinkState, empty_links, packet_in, with_packet, emptied, put}
+use Rattle.world_defs.specs.Advance.{course, entered, gone_on, advance_of}
+use Rattle.world_defs.specs.Fault.{repeat_of, hold_of, is_used_up, with_caught, flip_of, caught_as, released, replay_of, pull_by, plug}
+use Rattle.world_defs.specs.LinkStep.{Step, Put, Advance, Lose, Reset, Repeat, Hold, Flip, Replay, Pull, Plug, Accept, stepped}
+use Rattle.world_defs.specs.Mark.{Tells}
+use Rattle.world_defs.proofs.Idling.{pick}
+use Rattle.world_defs.proofs.HopsLeft.{course_into-enters}
+use Rattle.world_defs.proofs.LonePackets.{get-empty}
+use Rattle.world_defs.proofs.Shapes.{all-removed}
 use Rattle.table_laws.specs.Packets.{Built, IsHonest, IsGoodStep}
 
 -- what a move and a flip keep

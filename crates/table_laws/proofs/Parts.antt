@@ -7,7 +7,7 @@ use Rattle.std.proofs.lemmas.Bool.Decides.{nat_tests}
 use Rattle.std.proofs.Math.Seq.{take-add}
 use Rattle.std.proofs.lemmas.List.{take_all}
 use Rattle.std.proofs.lemmas.Option.{same_Some}
-use Rattle.mapper_bodies.specs.Mapping.{RouteEntry, RoutePart}
+use Rattle.world_defs.specs.Mapping.{RouteEntry, RoutePart}
 use Rattle.gm_defs.proofs.Choices.{then-some, map-some}
 use Rattle.world_defs.specs.declared.applied.Applied.{Applied}
 use Rattle.world_defs.specs.Table.{Adoption, TableState, epoch_in, entries_from, part_count, part_entries, with_part, joined_below, of_epoch, collected_with, joined_or, applied, is_epoch, active_epoch, is_old}

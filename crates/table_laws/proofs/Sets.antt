@@ -14,7 +14,7 @@ use Rattle.net_defs.specs.Route.{exit_at, entered_after, place_at, place, host_p
 use Rattle.net_defs.proofs.Distinct.{all-weaker}
 use Rattle.net_defs.proofs.Places.{far-there, place_at-there}
 use Rattle.net_defs.proofs.Cabling.{far_end-holds, far-back, exit-leaves, entered-there, at_most_sixteen}
-use Rattle.mapper_bodies.specs.Mapping.{RouteEntry, RoutePart}
+use Rattle.world_defs.specs.Mapping.{RouteEntry, RoutePart}
 use Rattle.gm_defs.proofs.Choices.{both, map-some}
 use Rattle.world_defs.specs.Table.{Adoption, route_of, entries_from, part_count, part_entries, part_with, part_for}
 use Rattle.table_laws.specs.Set.{IsPartOfSet, IsFit, IsFitPart}

@@ -7,13 +7,13 @@ use Rattle.std.specs.List.{AllByRecursion}
 use Rattle.net_defs.specs.declared.route.Route.{Route}
 use Rattle.net_defs.specs.Network.{Network}
 use Rattle.net_defs.proofs.Distinct.{all-weaker}
-use Rattle.cable_history.specs.History.{CableHistory, fabric_at}
-use Rattle.cable_history.specs.Later.{IsLater}
-use Rattle.cable_history.proofs.Now.{last_is_now}
-use Rattle.cable_history.proofs.Later.{later-past}
-use Rattle.link_defs.specs.Links.{Held}
-use Rattle.link_defs.specs.Fault.{accept, epoch_limit}
-use Rattle.mapper_bodies.specs.Mapping.{RouteEntry, RoutePart}
+use Rattle.world_defs.specs.History.{CableHistory, fabric_at}
+use Rattle.world_defs.specs.Later.{IsLater}
+use Rattle.world_defs.proofs.Now.{last_is_now}
+use Rattle.world_defs.proofs.CablesLater.{later-past}
+use Rattle.world_defs.specs.Links.{Held}
+use Rattle.world_defs.specs.Fault.{accept, epoch_limit}
+use Rattle.world_defs.specs.Mapping.{RouteEntry, RoutePart}
 use Rattle.world_defs.specs.declared.event.Event.{Event}
 use Rattle.world_defs.specs.declared.effect.Effect.{Effect}
 use Rattle.world_defs.specs.Table.{Adoption, ActiveTable, TableState, last_epoch, epoch_in, at_in, revoked_table, whole_table}

@@ -8,11 +8,11 @@ use Rattle.packet_defs.specs.Packet.{difference, front_turn, stripped, packet_of
 use Rattle.packet_defs.specs.Host.{decode}
 use Rattle.packet_defs.proofs.Packets.{packet_of-difference, packet_of-stripped}
 use Rattle.packet_defs.proofs.Hosts.{decode-difference}
-use Rattle.link_defs.specs.Links.{Held}
-use Rattle.link_defs.proofs.HopsLeft.{course_into-enters}
-use Rattle.cable_history.specs.History.{CableHistory}
-use Rattle.cable_history.specs.Crossed.{life_head}
-use Rattle.link_defs.specs.Mark.{Tells, HasTrueMark}
+use Rattle.world_defs.specs.Links.{Held}
+use Rattle.world_defs.proofs.HopsLeft.{course_into-enters}
+use Rattle.world_defs.specs.History.{CableHistory}
+use Rattle.world_defs.specs.Crossed.{life_head}
+use Rattle.world_defs.specs.Mark.{Tells, HasTrueMark}
 use Rattle.std.proofs.lemmas.List.{append-nil}
 use Rattle.world_defs.specs.Node.{Outgoing, to_send, packet_for}
 use Rattle.world_defs.specs.World.{WorldState, new_world, node_at}

@@ -11,11 +11,11 @@ use Rattle.net_defs.specs.declared.place.Place.TheVariants.{Host as AtHost, Noth
 use Rattle.net_defs.specs.Network.{Network, ports_of, far}
 use Rattle.net_defs.specs.Route.{exit_at, turned, entered_after, place, place_at, leaving_port, host_port, next_exit}
 use Rattle.net_defs.proofs.Ends.{both}
-use Rattle.cable_history.specs.declared.wire.Wire.{Wire}
-use Rattle.cable_history.specs.History.{CableHistory, IsHistory, fabric_at, fabric_now, stood_at, is_in_place}
-use Rattle.cable_history.specs.Crossed.{channel_by, channels_by, channels_at, leaving, is_new, is_cut}
-use Rattle.cable_history.proofs.Fewer.{none-far}
-use Rattle.cable_history.proofs.ForLife.{leaving_over, leaving_has_its_end, standing_leaves}
+use Rattle.world_defs.specs.declared.wire.Wire.{Wire}
+use Rattle.world_defs.specs.History.{CableHistory, IsHistory, fabric_at, fabric_now, stood_at, is_in_place}
+use Rattle.world_defs.specs.Crossed.{channel_by, channels_by, channels_at, leaving, is_new, is_cut}
+use Rattle.world_defs.proofs.Fewer.{none-far}
+use Rattle.world_defs.proofs.ForLife.{leaving_over, leaving_has_its_end, standing_leaves}
 
 -- a cable that stood at the acceptance, and wasn't pulled since, is in place and isn't new
 kept-second : (a b : Bool) → a ≡ true → (a && not b) ≡ false → b ≡ true

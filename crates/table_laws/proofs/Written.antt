@@ -8,9 +8,9 @@ use Rattle.std.proofs.lemmas.List.{append-nil, length-map, take_at, drop_at}
 use Rattle.net_defs.specs.Turn.{is_turn}
 use Rattle.packet_defs.specs.RouteByte.{route_byte, turns_of}
 use Rattle.packet_defs.proofs.RouteBytes.{turn_of-route_byte}
-use Rattle.mapper_bodies.specs.Mapping.{RouteEntry, RoutePart, Part, route_bytes, entry_bytes, is_mapping, Front, number_front, route_front, entry_front, entries_front, whole, two_front, with_entries, with_back, with_parts, with_dst, part_front, by_the_rules}
+use Rattle.world_defs.specs.Mapping.{RouteEntry, RoutePart, Part, route_bytes, entry_bytes, is_mapping, Front, number_front, route_front, entry_front, entries_front, whole, two_front, with_entries, with_back, with_parts, with_dst, part_front, by_the_rules}
 use Rattle.gm_defs.proofs.Choices.{both, if-some, map-some, then-some}
-use Rattle.mapper_bodies.proofs.Fronts.{read-16, read-32}
+use Rattle.world_defs.proofs.Fronts.{read-16, read-32}
 use Rattle.table_laws.specs.Set.{IsFit, IsFitPart}
 use Rattle.table_laws.specs.Laws.{PartIsReadAsWritten}
 

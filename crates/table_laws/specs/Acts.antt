@@ -5,9 +5,9 @@ use Rattle.packet_defs.specs.declared.kind.Kind.TheVariants.{Mapping, Gm}
 use Rattle.packet_defs.specs.Packet.{packet_of, difference}
 use Rattle.packet_defs.specs.Burst.{flipped}
 use Rattle.packet_defs.specs.Host.{decode}
-use Rattle.cable_history.specs.History.{IsHistory, fabric_at}
-use Rattle.link_defs.specs.Links.{Held, packet_in}
-use Rattle.mapper_bodies.specs.Mapping.{RoutePart, Part, decode_mapping}
+use Rattle.world_defs.specs.History.{IsHistory, fabric_at}
+use Rattle.world_defs.specs.Links.{Held, packet_in}
+use Rattle.world_defs.specs.Mapping.{RoutePart, Part, decode_mapping}
 use Rattle.net_defs.specs.Dependencies.{IsBefore, HasNoCycle}
 use Rattle.world_defs.specs.Table.{Adoption, ActiveTable, last_epoch, at_in}
 use Rattle.world_defs.specs.World.{WorldState, host_count, node_at, epoch_of}

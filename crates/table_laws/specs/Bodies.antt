@@ -2,7 +2,7 @@
 use Rattle.std.specs.Prelude.{◌≡◌, ℕ, List, IfSome, Option, Some}
 use Rattle.packet_defs.specs.declared.kind.Kind.{Kind}
 use Rattle.packet_defs.specs.declared.kind.Kind.TheVariants.{Mapping}
-use Rattle.mapper_bodies.specs.Mapping.{RoutePart, Part, decode_mapping}
+use Rattle.world_defs.specs.Mapping.{RoutePart, Part, decode_mapping}
 use Rattle.world_defs.specs.Table.{Adoption}
 use Rattle.world_defs.specs.Node.{NodeState, Staged, StagedProbe, StagedPart}
 use Rattle.table_laws.specs.Set.{IsPart, IsTable, IsFitPart}

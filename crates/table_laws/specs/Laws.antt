@@ -1,7 +1,7 @@
 -- What holds of the parts of the adopted set.
 use Rattle.std.specs.Prelude.{◌≡◌, ℕ, List, length, Option, Some}
 use Rattle.std.specs.List.{AllByRecursion}
-use Rattle.mapper_bodies.specs.Mapping.{RouteEntry, RoutePart, Part, mapping_bytes, decode_mapping}
+use Rattle.world_defs.specs.Mapping.{RouteEntry, RoutePart, Part, mapping_bytes, decode_mapping}
 use Rattle.world_defs.specs.Table.{Adoption, TableState, part_count, part_entries, joined_below, applied}
 use Rattle.table_laws.specs.Set.{IsPart, IsTable, IsFitPart}
 

@@ -3,9 +3,9 @@
 use Rattle.std.specs.Prelude.{◌≡◌, ℕ, ◌<◌, ℤ, false, List}
 use Rattle.packet_defs.specs.declared.kind.Kind.{Kind}
 use Rattle.packet_defs.specs.Packet.{packet_of}
-use Rattle.link_defs.specs.Links.{Held}
-use Rattle.link_defs.specs.Mark.{HasTrueMark}
-use Rattle.link_defs.specs.Step.{Step, Put, Flip}
+use Rattle.world_defs.specs.Links.{Held}
+use Rattle.world_defs.specs.Mark.{HasTrueMark}
+use Rattle.world_defs.specs.LinkStep.{Step, Put, Flip}
 
 -- A packet as it was built, or what switches left of it: some route, and a kind and a payload of which this holds.
 pub record Built (G : Kind → List ℕ → Type 0) (wire : List ℕ) : Type 0 where

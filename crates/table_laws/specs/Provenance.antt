@@ -7,7 +7,7 @@ use Rattle.packet_defs.specs.declared.kind.Kind.{Kind}
 use Rattle.packet_defs.specs.declared.host_drop.HostDrop.TheVariants.{BadCrc}
 use Rattle.packet_defs.specs.Packet.{packet_of}
 use Rattle.packet_defs.specs.Host.{decode}
-use Rattle.link_defs.specs.Links.{Held, packet_in}
+use Rattle.world_defs.specs.Links.{Held, packet_in}
 use Rattle.world_defs.specs.Node.{Outgoing, to_send, packet_for}
 use Rattle.world_defs.specs.World.{WorldState, new_world, node_at}
 use Rattle.world_defs.specs.Acts.{Act, acted_all, IsByteAct}

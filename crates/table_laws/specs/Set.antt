@@ -3,7 +3,7 @@ use Rattle.std.specs.Prelude.{◌≡◌, ◌⊎◌, ℕ, ◌+◌, ◌<◌, ◌�
 use Rattle.std.specs.List.{list_all, AllByRecursion}
 use Rattle.net_defs.specs.Turn.{is_turn}
 use Rattle.net_defs.specs.declared.route.Route.{Route}
-use Rattle.mapper_bodies.specs.Mapping.{RouteEntry, RoutePart}
+use Rattle.world_defs.specs.Mapping.{RouteEntry, RoutePart}
 use Rattle.world_defs.specs.Table.{Adoption, ActiveTable, TableState, epoch_in, entries_from, part_count, part_entries}
 
 -- A part is one of the set for its host, by the number of the set's epoch: whoever adopted the set, it says how many

@@ -3,10 +3,10 @@ use Rattle.std.proofs.Common.{◌≡◌, ◌<◌, ◌≤◌, ℕ, ℤ, true, nat
 use Rattle.std.specs.Prelude.{Result, OnOk, OnErr}
 use Rattle.std.specs.List.{AllByRecursion}
 use Rattle.std.proofs.lemmas.Bool.Decides.{nat_tests}
-use Rattle.cable_history.specs.declared.wire.Wire.{Wire}
-use Rattle.cable_history.specs.History.{CableHistory, IsHistory, IsDated, fabric_at}
-use Rattle.cable_history.specs.Later.{OnlyPulled}
-use Rattle.cable_history.proofs.Later.{pulled-later, later-past}
+use Rattle.world_defs.specs.declared.wire.Wire.{Wire}
+use Rattle.world_defs.specs.History.{CableHistory, IsHistory, IsDated, fabric_at}
+use Rattle.world_defs.specs.Later.{OnlyPulled}
+use Rattle.world_defs.proofs.CablesLater.{pulled-later, later-past}
 use Rattle.world_defs.specs.World.{WorldState, host_count}
 use Rattle.world_defs.specs.Logs as log
 use Rattle.world_defs.specs.Row.{IsPartWay}

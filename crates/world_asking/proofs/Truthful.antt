@@ -6,8 +6,8 @@ use Rattle.net_defs.specs.declared.place.Answer.{Answer}
 use Rattle.net_defs.specs.declared.place.Answer.TheVariants.{Nothing}
 use Rattle.net_defs.specs.Turn.{IsTurn}
 use Rattle.net_defs.specs.Route.{answer}
-use Rattle.link_defs.specs.Links.{is_idle}
-use Rattle.cable_history.specs.History.{fabric_at}
+use Rattle.world_defs.specs.Links.{is_idle}
+use Rattle.world_defs.specs.History.{fabric_at}
 use Rattle.world_defs.specs.World.{WorldState, host_count}
 use Rattle.world_defs.proofs.LogViews.{ask}
 use Rattle.world_defs.specs.Logs as log

@@ -2,8 +2,8 @@
 
 ghost use Rattle.std.specs.Prelude.{◌≡◌, ◌≤◌, ◌<◌, length, true, IfOk, OnOk, OnErr};
 ghost use Rattle.net_defs.specs.Route.{answer};
-ghost use Rattle.link_defs.specs.Links.{is_idle};
-ghost use Rattle.cable_history.specs.History.{fabric_at};
+ghost use Rattle.world_defs.specs.Links.{is_idle};
+ghost use Rattle.world_defs.specs.History.{fabric_at};
 ghost use Rattle.world_defs.specs.World.{host_count};
 ghost use Rattle.probe.specs.Drowning.{IsTrueOrDrowned};
 ghost use Rattle.fab_world.specs.Events.{IsHostOf};
@@ -98,8 +98,8 @@ impl WorldProber {
 
 impl Prober for WorldProber {
     ghost use Rattle.std.specs.Prelude.{◌≡◌, true};
-    ghost use Rattle.link_defs.specs.Links.{is_idle};
-    ghost use Rattle.cable_history.specs.History.{fabric_at};
+    ghost use Rattle.world_defs.specs.Links.{is_idle};
+    ghost use Rattle.world_defs.specs.History.{fabric_at};
     ghost use Rattle.world_asking.specs.Prober.{WorldAsking, IsAsked, IsCutAsk};
 
     ghost fabric = { λ p. fabric_at p.world.links.cables p.made };

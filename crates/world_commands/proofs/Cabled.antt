@@ -10,10 +10,10 @@ use Rattle.net_defs.specs.declared.route.Route.{Route}
 use Rattle.net_defs.specs.Building.{cable_refusal}
 use Rattle.net_defs.specs.Refusal.{Refuses}
 use Rattle.net_defs.specs.Network.{Network, NamedSwitch, has_vertex, has_port}
-use Rattle.cable_history.specs.History.{may_plug, with_plugged, cable_limit}
-use Rattle.cable_history.specs.Later.{IsLater}
-use Rattle.cable_history.proofs.Later.{later-kept}
-use Rattle.link_defs.specs.Links.{LinkState}
+use Rattle.world_defs.specs.History.{may_plug, with_plugged, cable_limit}
+use Rattle.world_defs.specs.Later.{IsLater}
+use Rattle.world_defs.proofs.CablesLater.{later-kept}
+use Rattle.world_defs.specs.Links.{LinkState}
 use Rattle.world_defs.specs.declared.event.Event.{Event}
 use Rattle.world_defs.specs.declared.event.Event.TheVariants.{Pull as PullEvent, Plug as PlugEvent}
 use Rattle.world_defs.specs.declared.effect.Effect.{Effect}

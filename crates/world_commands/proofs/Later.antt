@@ -2,8 +2,8 @@
 use Rattle.std.proofs.Common.{◌≡◌, ℕ, true, nat_lt, List, length, sym, subst}
 use Rattle.net_defs.specs.declared.vertex.Vertex.TheVariants.{Host}
 use Rattle.net_defs.specs.Network.{has_vertex}
-use Rattle.cable_history.specs.Later.{IsLater}
-use Rattle.cable_history.proofs.Later.{later-kept}
+use Rattle.world_defs.specs.Later.{IsLater}
+use Rattle.world_defs.proofs.CablesLater.{later-kept}
 use Rattle.world_defs.specs.World.{WorldState, fabric_of}
 use Rattle.run_defs.specs.Output.{Piece}
 use Rattle.fab_report.specs.Printed.{printed_of}

@@ -4,15 +4,15 @@ use Rattle.std.specs.Option.{option_map}
 use Rattle.std.proofs.lemmas.Bool.Decides.{nat_tests}
 use Rattle.net_defs.specs.declared.vertex.Vertex.TheVariants.{Host}
 use Rattle.net_defs.specs.Network.{Network, has_vertex}
-use Rattle.cable_history.specs.Later.{IsLater}
-use Rattle.link_defs.specs.declared.moved.Course.TheVariants.{Enters}
-use Rattle.link_defs.specs.declared.replayed.Replayed.{Replayed}
-use Rattle.link_defs.specs.declared.replayed.Replayed.TheVariants.{Back, Busy}
-use Rattle.link_defs.specs.Shape.{IsLinks}
-use Rattle.link_defs.specs.Links.{Caught, LinkState, packet_in}
-use Rattle.link_defs.specs.Advance.{course}
-use Rattle.link_defs.specs.Fault.{caught_as, released, replay_of, replay}
-use Rattle.link_defs.specs.Step.{Step}
+use Rattle.world_defs.specs.Later.{IsLater}
+use Rattle.world_defs.specs.declared.moved.Course.TheVariants.{Enters}
+use Rattle.world_defs.specs.declared.replayed.Replayed.{Replayed}
+use Rattle.world_defs.specs.declared.replayed.Replayed.TheVariants.{Back, Busy}
+use Rattle.world_defs.specs.Shape.{IsLinks}
+use Rattle.world_defs.specs.Links.{Caught, LinkState, packet_in}
+use Rattle.world_defs.specs.Advance.{course}
+use Rattle.world_defs.specs.Fault.{caught_as, released, replay_of, replay}
+use Rattle.world_defs.specs.LinkStep.{Step}
 use Rattle.link_model.proofs.Limbos.{channel-below}
 use Rattle.link_model.proofs.Stepping.{course-below}
 use Rattle.world_defs.specs.declared.event.Event.{Event}

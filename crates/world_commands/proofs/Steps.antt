@@ -7,9 +7,9 @@ use Rattle.net_defs.specs.declared.vertex.Vertex.{Vertex}
 use Rattle.net_defs.specs.declared.vertex.Vertex.TheVariants.{Host, Switch}
 use Rattle.net_defs.specs.declared.vertex.End.{End}
 use Rattle.net_defs.specs.Network.{Network, has_vertex, has_port}
-use Rattle.cable_history.specs.declared.wire.Wire.{Wire}
-use Rattle.cable_history.specs.Crossed.{life_tail}
-use Rattle.cable_history.proofs.There.{ends_are_there}
+use Rattle.world_defs.specs.declared.wire.Wire.{Wire}
+use Rattle.world_defs.specs.Crossed.{life_tail}
+use Rattle.world_defs.proofs.There.{ends_are_there}
 use Rattle.world_defs.specs.World.{WorldState, fabric_of}
 use Rattle.run_defs.specs.Outcome.{named_by_tail, tail_of}
 use Rattle.fab_world.specs.Held.{IsMoment}

@@ -1,7 +1,7 @@
 //! One event of a client, and the line of what it was answered.
 
 ghost use Rattle.std.specs.Prelude.{◌≡◌, length, IfErr, OnOk};
-ghost use Rattle.cable_history.specs.Later.{IsLater};
+ghost use Rattle.world_defs.specs.Later.{IsLater};
 ghost use Rattle.world_defs.specs.World.{fabric_of};
 ghost use Rattle.world_defs.specs.declared.effect.Effect.TheVariants.{Said as SaidSo};
 ghost use Rattle.run_defs.specs.Outcome.{client_lines};

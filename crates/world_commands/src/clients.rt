@@ -2,7 +2,7 @@
 //! of it was done but its line.
 
 ghost use Rattle.std.specs.Prelude.{◌≤◌, IfErr, OnOk};
-ghost use Rattle.cable_history.specs.Later.{IsLater};
+ghost use Rattle.world_defs.specs.Later.{IsLater};
 ghost use Rattle.world_defs.specs.World.{fabric_of};
 ghost use Rattle.run_defs.specs.declared.command.Command.TheVariants.{Begin, Close, Poll, Provide};
 ghost use Rattle.fab_report.specs.There.{IsHost};

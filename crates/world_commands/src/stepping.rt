@@ -2,7 +2,7 @@
 
 ghost use Rattle.std.specs.Prelude.{◌≡◌, ◌∷◌, [], IfErr, IfSome, IsTrue, OnOk};
 ghost use Rattle.net_defs.specs.Network.{has_vertex};
-ghost use Rattle.cable_history.specs.Later.{IsLater};
+ghost use Rattle.world_defs.specs.Later.{IsLater};
 ghost use Rattle.world_defs.specs.Step.{step};
 ghost use Rattle.world_defs.specs.World.{fabric_of};
 ghost use Rattle.run_defs.specs.Outcome.{event_of, named_by_tail, words_of};

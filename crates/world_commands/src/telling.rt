@@ -2,8 +2,8 @@
 
 ghost use Rattle.std.specs.Prelude.{◌≡◌, ◌≤◌, length, All, IfErr, OnOk};
 ghost use Rattle.net_defs.specs.Turn.{IsTurn};
-ghost use Rattle.cable_history.specs.Later.{IsLater};
-ghost use Rattle.link_defs.specs.Links.{empty_links};
+ghost use Rattle.world_defs.specs.Later.{IsLater};
+ghost use Rattle.world_defs.specs.Links.{empty_links};
 ghost use Rattle.world_defs.specs.World.{fabric_of};
 ghost use Rattle.run_defs.specs.Outcome.{fault_of};
 ghost use Rattle.run_defs.specs.declared.command.Command.TheVariants.{Walk, Plan, Finish};

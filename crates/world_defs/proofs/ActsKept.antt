@@ -1,11 +1,11 @@
 -- What every act keeps: a history of cables, the vertices, the fabric before any change, and a plan of flips of eight bits.
 use Rattle.std.proofs.Common.{◌≡◌, ◌≤◌, ◌+◌, ℕ, Bool, true, false, List, Option, Some, None, if◌then◌else◌, refl, sym, ◌∙◌, ap, subst, true≢false, arith}
 use Rattle.net_defs.specs.declared.route.Route.{Route}
-use Rattle.cable_history.specs.History.{CableHistory, IsHistory, fabric_at, with_accepted}
-use Rattle.cable_history.proofs.Kept.{accept_keeps}
-use Rattle.cable_history.proofs.Later.{later-kept, later-past}
-use Rattle.link_defs.specs.Links.{LinkState}
-use Rattle.link_defs.specs.Fault.{accept}
+use Rattle.world_defs.specs.History.{CableHistory, IsHistory, fabric_at, with_accepted}
+use Rattle.world_defs.proofs.CablesKept.{accept_keeps}
+use Rattle.world_defs.proofs.CablesLater.{later-kept, later-past}
+use Rattle.world_defs.specs.Links.{LinkState}
+use Rattle.world_defs.specs.Fault.{accept}
 use Rattle.world_defs.specs.EightBits.{HasByteFaults}
 use Rattle.world_defs.specs.Table.{Adoption, at_in, keeps_in}
 use Rattle.world_defs.specs.World.{WorldState, standing_of, keeps_epoch}

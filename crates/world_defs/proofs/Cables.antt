@@ -1,10 +1,10 @@
 -- In a world that is reached from the new one of a fabric, the cables are a history that begins with the fabric, and they were accepted at the adoption.
 use Rattle.std.proofs.Common.{◌≡◌, ◌≤◌, ℕ, refl, ◌∙◌, arith}
 use Rattle.net_defs.specs.Network.{Network, IsFabric}
-use Rattle.cable_history.proofs.FewCables.{few_named}
-use Rattle.cable_history.specs.History.{IsHistory, fabric_at}
-use Rattle.cable_history.proofs.First.{first_is_history, first_stands}
-use Rattle.cable_history.proofs.Now.{now_is_fabric}
+use Rattle.world_defs.proofs.FewCables.{few_named}
+use Rattle.world_defs.specs.History.{IsHistory, fabric_at}
+use Rattle.world_defs.proofs.First.{first_is_history, first_stands}
+use Rattle.world_defs.proofs.Now.{now_is_fabric}
 use Rattle.world_defs.specs.Table.{at_in}
 use Rattle.world_defs.specs.World.{WorldState, fabric_of, new_world}
 use Rattle.world_defs.specs.Acts.{Act, acted, IsReached}

@@ -4,9 +4,9 @@ use Rattle.std.specs.Prelude.{pos, replicate, slice_get}
 use Rattle.std.specs.List.{AllByRecursion}
 use Rattle.net_defs.specs.declared.place.Answer.{Answer}
 use Rattle.net_defs.specs.Examples.{joined, host_end, switch_end}
-use Rattle.cable_history.specs.Crossed.{leaving, is_new}
-use Rattle.link_defs.specs.Kinds.{is_gm}
-use Rattle.link_defs.specs.Links.{packet_in}
+use Rattle.world_defs.specs.Crossed.{leaving, is_new}
+use Rattle.world_defs.specs.Kinds.{is_gm}
+use Rattle.world_defs.specs.Links.{packet_in}
 use Rattle.gm_defs.specs.Connection.{connection}
 use Rattle.world_defs.specs.declared.event.Event.{Event}
 use Rattle.world_defs.specs.declared.effect.Effect.{Effect}

@@ -16,8 +16,8 @@ use Rattle.gm_defs.specs.declared.token.Took.TheVariants.{NotNext as TookNotNext
 use Rattle.gm_defs.specs.Body.{decode, part_in}
 use Rattle.gm_defs.specs.Port.{finished}
 use Rattle.gm_defs.proofs.Choices.{both}
-use Rattle.mapper_bodies.specs.Mapping.{RoutePart, MappingBody, decode_mapping}
-use Rattle.mapper_bodies.specs.Mapping.MappingBody.{HostProbe, HostReply, Loopback, Part, PartAck}
+use Rattle.world_defs.specs.Mapping.{RoutePart, MappingBody, decode_mapping}
+use Rattle.world_defs.specs.Mapping.MappingBody.{HostProbe, HostReply, Loopback, Part, PartAck}
 use Rattle.world_defs.specs.declared.heard.Heard.{Heard}
 use Rattle.world_defs.specs.declared.heard.Heard.TheVariants.{Probe, Reply, Loop, Routes, RoutesAck, Ack as AckHeard}
 use Rattle.world_defs.specs.declared.arrival.Arrival.{Arrival}

@@ -3,10 +3,10 @@ use Rattle.std.proofs.Common.{◌≡◌, ℕ, get_or, set, Some, refl, sym, subs
 use Rattle.std.specs.Prelude.{List}
 use Rattle.net_defs.specs.declared.route.Route.{Route}
 use Rattle.net_defs.specs.Route.{host_port}
-use Rattle.cable_history.specs.Crossed.{leaving}
-use Rattle.link_defs.specs.declared.moved.Course.TheVariants.{Arrives}
-use Rattle.link_defs.specs.Links.{Held, packet_in}
-use Rattle.link_defs.specs.Advance.{course}
+use Rattle.world_defs.specs.Crossed.{leaving}
+use Rattle.world_defs.specs.declared.moved.Course.TheVariants.{Arrives}
+use Rattle.world_defs.specs.Links.{Held, packet_in}
+use Rattle.world_defs.specs.Advance.{course}
 use Rattle.world_defs.specs.declared.event.Event.{Event}
 use Rattle.world_defs.specs.declared.event.Event.TheVariants.{Inject, Advance}
 use Rattle.world_defs.specs.declared.effect.Effect.{Effect}

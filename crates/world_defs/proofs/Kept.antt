@@ -3,12 +3,12 @@ use Rattle.std.proofs.Common.{◌≡◌, ◌+◌, ℕ, Bool, true, false, List, 
 use Rattle.std.specs.List.{AllByRecursion}
 use Rattle.std.specs.Map.{lookup}
 use Rattle.std.specs.Ordering.{match_ordering, nat_cmp}
-use Rattle.cable_history.specs.Later.{OnlyPulled, IsLater}
-use Rattle.cable_history.proofs.Later.{pulled-later}
-use Rattle.link_defs.specs.Links.{LinkState}
-use Rattle.link_defs.specs.Step.{Step, Put as PutLinks, Advance as AdvanceLinks, Lose as LoseLinks, Repeat as RepeatLinks, Hold as HoldLinks, Flip as FlipLinks, stepped}
-use Rattle.link_defs.proofs.Shapes.{stepped-cables}
-use Rattle.link_defs.proofs.Later.{pull-only, plug-later, packets-only}
+use Rattle.world_defs.specs.Later.{OnlyPulled, IsLater}
+use Rattle.world_defs.proofs.CablesLater.{pulled-later}
+use Rattle.world_defs.specs.Links.{LinkState}
+use Rattle.world_defs.specs.LinkStep.{Step, Put as PutLinks, Advance as AdvanceLinks, Lose as LoseLinks, Repeat as RepeatLinks, Hold as HoldLinks, Flip as FlipLinks, stepped}
+use Rattle.world_defs.proofs.Shapes.{stepped-cables}
+use Rattle.world_defs.proofs.LinksLater.{pull-only, plug-later, packets-only}
 use Rattle.world_defs.specs.declared.event.Event.{Event}
 use Rattle.world_defs.specs.declared.effect.Effect.{Effect}
 use Rattle.world_defs.specs.declared.fault.Fault.{Fault}

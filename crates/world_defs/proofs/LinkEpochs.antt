@@ -1,17 +1,17 @@
 -- No step of the links but an acceptance begins an epoch of them, so no event does.
 use Rattle.std.proofs.Common.{◌≡◌, ◌+◌, ℕ, Bool, true, false, not, ◌&&◌, List, [], ◌∷◌, ◌++◌, Option, Some, None, is_some, refl, ◌∙◌, true≢false}
 use Rattle.net_defs.specs.declared.vertex.End.{End}
-use Rattle.cable_history.specs.History.{may_plug, with_plugged}
-use Rattle.cable_history.specs.Crossed.{leaving}
+use Rattle.world_defs.specs.History.{may_plug, with_plugged}
+use Rattle.world_defs.specs.Crossed.{leaving}
 use Rattle.packet_defs.specs.Burst.{flipped, may_flip}
-use Rattle.link_defs.specs.declared.moved.Course.{Course}
-use Rattle.link_defs.specs.declared.moved.Course.TheVariants.{Arrives, Enters, Drops}
-use Rattle.link_defs.specs.declared.replayed.Replayed.TheVariants.{Back, Busy}
-use Rattle.link_defs.specs.Links.{Held, Caught, LinkState, packet_in, with_packet, emptied, put}
-use Rattle.link_defs.specs.Advance.{course, entered, gone_on, advance_of}
-use Rattle.link_defs.specs.Fault.{repeat_of, hold_of, is_used_up, with_caught, flip_of, caught_as, released, replay_of, pull_by, plug}
-use Rattle.link_defs.specs.Step.{Step, Put, Advance, Lose, Reset, Repeat, Hold, Flip, Replay, Pull, Plug, Accept, stepped}
-use Rattle.link_defs.proofs.Idling.{pick}
+use Rattle.world_defs.specs.declared.moved.Course.{Course}
+use Rattle.world_defs.specs.declared.moved.Course.TheVariants.{Arrives, Enters, Drops}
+use Rattle.world_defs.specs.declared.replayed.Replayed.TheVariants.{Back, Busy}
+use Rattle.world_defs.specs.Links.{Held, Caught, LinkState, packet_in, with_packet, emptied, put}
+use Rattle.world_defs.specs.Advance.{course, entered, gone_on, advance_of}
+use Rattle.world_defs.specs.Fault.{repeat_of, hold_of, is_used_up, with_caught, flip_of, caught_as, released, replay_of, pull_by, plug}
+use Rattle.world_defs.specs.LinkStep.{Step, Put, Advance, Lose, Reset, Repeat, Hold, Flip, Replay, Pull, Plug, Accept, stepped}
+use Rattle.world_defs.proofs.Idling.{pick}
 use Rattle.world_defs.specs.declared.event.Event.{Event}
 use Rattle.world_defs.specs.declared.effect.Effect.{Effect}
 use Rattle.world_defs.specs.Node.{Outgoing, packet_for}

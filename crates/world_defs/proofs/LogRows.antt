@@ -1,7 +1,7 @@
 -- Whatever logs are made of, their events lead to their worlds and are of the kinds that they are made of.
 use Rattle.std.proofs.Common.{◌≡◌, ◌+◌, ◌&&◌, ℕ, ℤ, zero, suc, Bool, true, false, List, [], ◌∷◌, ◌++◌, map, nat_lt, Option, Some, None, is_some, refl, sym, ap, ◌∙◌, if◌then◌else◌}
 use Rattle.std.specs.List.{AllByRecursion, filter}
-use Rattle.link_defs.specs.Hops.{total_hops}
+use Rattle.world_defs.specs.Hops.{total_hops}
 use Rattle.world_defs.specs.declared.event.Event.{Event}
 use Rattle.world_defs.specs.declared.event.Event.TheVariants.{Ask, Part, Inject, Advance, Replay, Reset, Expire, GiveUp}
 use Rattle.world_defs.specs.EightBits.{IsByteEvent}

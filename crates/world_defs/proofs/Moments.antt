@@ -7,9 +7,9 @@ use Rattle.packet_defs.specs.declared.kind.Kind.{Kind}
 use Rattle.packet_defs.specs.declared.kind.Kind.TheVariants.{Gm}
 use Rattle.packet_defs.specs.declared.host_drop.HostDrop.{HostDrop}
 use Rattle.packet_defs.specs.Host.{body_of}
-use Rattle.cable_history.specs.Crossed.{is_new}
-use Rattle.link_defs.specs.Kinds.{unrouted, is_gm}
-use Rattle.link_defs.specs.Links.{Held, Caught, packet_in}
+use Rattle.world_defs.specs.Crossed.{is_new}
+use Rattle.world_defs.specs.Kinds.{unrouted, is_gm}
+use Rattle.world_defs.specs.Links.{Held, Caught, packet_in}
 use Rattle.net_defs.specs.Dependencies.{IsNext, IsBefore, HasNoCycle}
 use Rattle.net_defs.specs.Dependencies.IsNext.{here, later}
 use Rattle.net_defs.proofs.Cycles.{no_cycle-rising}

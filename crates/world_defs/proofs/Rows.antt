@@ -9,7 +9,7 @@ use Rattle.world_defs.specs.Step.{lost, was_reset, repeated, held, flipped, repl
 use Rattle.world_defs.specs.Settle.{unacknowledged_in}
 use Rattle.world_defs.specs.Logs.{drain, clear, round_pass, round, settle, sends, host_try, loop_try, ask, part_try, install}
 use Rattle.net_defs.specs.declared.place.Answer.{Answer}
-use Rattle.link_defs.specs.Links.{packet_in}
+use Rattle.world_defs.specs.Links.{packet_in}
 use Rattle.world_defs.specs.declared.effect.Effect.{Effect}
 use Rattle.world_defs.specs.declared.effect.Said.{Said}
 use Rattle.world_defs.specs.declared.heard.Heard.{Heard}

@@ -1,8 +1,8 @@
 -- What a planned fault makes of a world, case by case, and what it leaves.
 use Rattle.std.proofs.Common.{◌≡◌, ◌+◌, ℕ, Bool, true, false, set, nat_eq, Option, Some, None, refl, sym, subst, if◌then◌else◌}
 use Rattle.std.specs.Map.{lookup}
-use Rattle.link_defs.specs.Links.{LinkState}
-use Rattle.link_defs.specs.Step.{Step, Lose as LoseLinks, Repeat as RepeatLinks, Hold as HoldLinks, Flip as FlipLinks, Pull as PullLinks, stepped}
+use Rattle.world_defs.specs.Links.{LinkState}
+use Rattle.world_defs.specs.LinkStep.{Step, Lose as LoseLinks, Repeat as RepeatLinks, Hold as HoldLinks, Flip as FlipLinks, Pull as PullLinks, stepped}
 use Rattle.world_defs.specs.declared.fault.Fault.{Fault}
 use Rattle.world_defs.specs.declared.fault.Fault.TheVariants.{Lose as LoseFault, Repeat as RepeatFault, Hold as HoldFault, Flip as FlipFault, Pull as PullFault}
 use Rattle.world_defs.specs.Node.{Outgoing, after_sending}

@@ -3,20 +3,20 @@ use Rattle.std.proofs.Common.{◌≡◌, ◌<◌, ◌+◌, ℕ, Bool, true, fals
 use Rattle.std.proofs.lemmas.Bool.Decides.{nat_tests}
 use Rattle.net_defs.specs.declared.vertex.End.{End}
 use Rattle.net_defs.specs.Route.{host_port}
-use Rattle.cable_history.specs.Crossed.{leaving}
+use Rattle.world_defs.specs.Crossed.{leaving}
 use Rattle.net_defs.proofs.Growing.{no_some}
 use Rattle.packet_defs.specs.declared.host_drop.HostDrop.{HostDrop}
 use Rattle.packet_defs.specs.Packet.{stripped}
-use Rattle.link_defs.specs.declared.moved.Why.{Why}
-use Rattle.link_defs.specs.declared.moved.Course.{Course}
-use Rattle.link_defs.specs.declared.moved.Course.TheVariants.{Arrives, Enters, Drops}
-use Rattle.link_defs.specs.declared.replayed.Replayed.{Replayed}
-use Rattle.link_defs.specs.declared.replayed.Replayed.TheVariants.{Back, Busy, Unknown}
-use Rattle.link_defs.specs.Links.{Held, LinkState, packet_in, with_packet, emptied}
-use Rattle.link_defs.specs.Advance.{course, entered, gone_on, advance_of}
-use Rattle.link_defs.specs.Fault.{lose, reset, repeat, hold, flip, replay, pull, plug}
-use Rattle.link_defs.specs.Step.{Step, Advance as AdvanceLinks, Lose as LoseLinks, Reset as ResetLinks, Repeat as RepeatLinks, Hold as HoldLinks, Flip as FlipLinks, Replay as ReplayLinks, Pull as PullLinks, Plug as PlugLinks, stepped}
-use Rattle.mapper_bodies.specs.Mapping.{RoutePart}
+use Rattle.world_defs.specs.declared.moved.Why.{Why}
+use Rattle.world_defs.specs.declared.moved.Course.{Course}
+use Rattle.world_defs.specs.declared.moved.Course.TheVariants.{Arrives, Enters, Drops}
+use Rattle.world_defs.specs.declared.replayed.Replayed.{Replayed}
+use Rattle.world_defs.specs.declared.replayed.Replayed.TheVariants.{Back, Busy, Unknown}
+use Rattle.world_defs.specs.Links.{Held, LinkState, packet_in, with_packet, emptied}
+use Rattle.world_defs.specs.Advance.{course, entered, gone_on, advance_of}
+use Rattle.world_defs.specs.Fault.{lose, reset, repeat, hold, flip, replay, pull, plug}
+use Rattle.world_defs.specs.LinkStep.{Step, Advance as AdvanceLinks, Lose as LoseLinks, Reset as ResetLinks, Repeat as RepeatLinks, Hold as HoldLinks, Flip as FlipLinks, Replay as ReplayLinks, Pull as PullLinks, Plug as PlugLinks, stepped}
+use Rattle.world_defs.specs.Mapping.{RoutePart}
 use Rattle.world_defs.specs.declared.event.Event.{Event}
 use Rattle.world_defs.specs.declared.event.Event.TheVariants.{Ask, Part, Inject, Advance, Lose, Repeat, Hold, Flip, Replay, Reset, Expire, GiveUp, Begin, Close, Provide, Send, Poll, Revoke, Pull, Plug}
 use Rattle.world_defs.specs.declared.effect.Effect.{Effect}

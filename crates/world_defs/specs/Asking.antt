@@ -4,7 +4,7 @@ use Rattle.std.specs.Prelude.{nat_le, is_some, if◌then◌else◌, Option, Some
 use Rattle.net_defs.specs.declared.place.Answer.{Answer}
 use Rattle.net_defs.specs.declared.place.Answer.TheVariants.{Switch, Nothing}
 use Rattle.net_defs.specs.Route.{host_port}
-use Rattle.cable_history.specs.Crossed.{leaving}
+use Rattle.world_defs.specs.Crossed.{leaving}
 use Rattle.world_defs.specs.declared.event.Event.TheVariants.{GiveUp}
 use Rattle.world_defs.specs.declared.effect.Effect.{Effect}
 use Rattle.world_defs.specs.declared.effect.Effect.TheVariants.{Arrived, Injected}

@@ -17,8 +17,8 @@ use Rattle.gm_defs.specs.declared.token.Took.{Took}
 use Rattle.gm_defs.specs.declared.token.Took.TheVariants.{NotNext as TookNotNext, NoToken as TookNoToken}
 use Rattle.gm_defs.specs.declared.token.Took.TheVariants.{Part as TookPart, Whole}
 use Rattle.gm_defs.specs.Body.{is_last, decode, part_in}
-use Rattle.mapper_bodies.specs.Mapping.{RoutePart, MappingBody, decode_mapping}
-use Rattle.mapper_bodies.specs.Mapping.MappingBody.{HostProbe, HostReply, Loopback, Part, PartAck}
+use Rattle.world_defs.specs.Mapping.{RoutePart, MappingBody, decode_mapping}
+use Rattle.world_defs.specs.Mapping.MappingBody.{HostProbe, HostReply, Loopback, Part, PartAck}
 use Rattle.gm_defs.specs.Connection.{key_of, took}
 use Rattle.gm_defs.specs.Token.{PortState, fitting, has_begun, can_take}
 use Rattle.gm_defs.specs.Port.{delivered, finished}

@@ -3,7 +3,7 @@ use Rattle.std.specs.Prelude.{◌+◌, ℕ, ℤ, Bool, true, false, ◌&&◌, �
 use Rattle.std.specs.Prelude.{nat_eq, is_some, if◌then◌else◌, Option, Some, None}
 use Rattle.net_defs.specs.declared.place.Answer.{Answer}
 use Rattle.net_defs.specs.declared.place.Answer.TheVariants.{Host}
-use Rattle.link_defs.specs.Hops.{total_hops}
+use Rattle.world_defs.specs.Hops.{total_hops}
 use Rattle.journal_defs.specs.declared.entry.Entry.{Entry}
 use Rattle.world_defs.specs.declared.event.Event.{Event}
 use Rattle.world_defs.specs.declared.event.Event.TheVariants.{Ask, Part, Inject, Advance, Replay, GiveUp}

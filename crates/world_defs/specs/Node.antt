@@ -8,8 +8,8 @@ use Rattle.packet_defs.specs.Packet.{packet_of}
 use Rattle.gm_defs.specs.declared.frame.FrameHead.{FrameHead}
 use Rattle.gm_defs.specs.declared.frame.ConnectionKey.{ConnectionKey}
 use Rattle.gm_defs.specs.Body.{prio_limit, frame_bytes, ack_bytes}
-use Rattle.mapper_bodies.specs.Mapping.{RoutePart, mapping_bytes}
-use Rattle.mapper_bodies.specs.Mapping.MappingBody.{HostProbe, HostReply, Loopback, Part, PartAck}
+use Rattle.world_defs.specs.Mapping.{RoutePart, mapping_bytes}
+use Rattle.world_defs.specs.Mapping.MappingBody.{HostProbe, HostReply, Loopback, Part, PartAck}
 use Rattle.gm_defs.specs.Fragment.{frame_of}
 use Rattle.gm_defs.specs.Connection.{connection, ack_on, due, unacknowledged}
 use Rattle.gm_defs.specs.Token.{PortState}

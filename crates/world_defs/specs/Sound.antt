@@ -2,7 +2,7 @@
 use Rattle.std.specs.Prelude.{◌≡◌, ℕ, ◌<◌, List, [], ◌∷◌, ◌++◌, map, length, Option, Some, None}
 use Rattle.std.specs.List.{AllByRecursion}
 use Rattle.net_defs.specs.Network.{Apart}
-use Rattle.mapper_bodies.specs.Mapping.{RouteEntry}
+use Rattle.world_defs.specs.Mapping.{RouteEntry}
 use Rattle.gm_defs.specs.declared.frame.ConnectionKey.{ConnectionKey}
 use Rattle.gm_defs.specs.Token.{PortState, sends_out, recvs_out}
 use Rattle.net_defs.specs.Dependencies.{IsBefore, HasNoCycle}

@@ -4,23 +4,23 @@ use Rattle.std.specs.Prelude.{slice_set, if◌then◌else◌, Option, Some, None
 use Rattle.std.specs.Map.{lookup}
 use Rattle.net_defs.specs.Route.{host_port}
 use Rattle.net_defs.specs.declared.vertex.End.{End}
-use Rattle.cable_history.specs.Crossed.{leaving}
+use Rattle.world_defs.specs.Crossed.{leaving}
 use Rattle.packet_defs.specs.declared.host_drop.HostDrop.{HostDrop}
 use Rattle.packet_defs.specs.declared.host_drop.HostDrop.TheVariants.{BadCrc as HostBadCrc, RouteLeft as HostRouteLeft}
 use Rattle.packet_defs.specs.declared.host_drop.HostDrop.TheVariants.{UnknownType as HostUnknownType}
 use Rattle.packet_defs.specs.declared.host_drop.HostDrop.TheVariants.{Malformed as HostMalformed}
-use Rattle.link_defs.specs.declared.moved.Why.{Why}
-use Rattle.link_defs.specs.declared.moved.Why.TheVariants.{OutOfRange as AwayOutOfRange, NotRoute as AwayNotRoute}
-use Rattle.link_defs.specs.declared.moved.Why.TheVariants.{NoCable as AwayNoCable, NewCable as AwayNewCable}
-use Rattle.link_defs.specs.declared.moved.Moved.{Moved}
-use Rattle.link_defs.specs.declared.moved.Moved.TheVariants.{To, AtHost, Dropped as MovedDropped}
-use Rattle.link_defs.specs.declared.moved.Moved.TheVariants.{Blocked as MovedBlocked, Empty}
-use Rattle.link_defs.specs.declared.replayed.Replayed.{Replayed}
-use Rattle.link_defs.specs.declared.replayed.Replayed.TheVariants.{Back, Busy, Unknown}
-use Rattle.link_defs.specs.Links.{LinkState, packet_in, put}
-use Rattle.link_defs.specs.Advance.{advance}
-use Rattle.link_defs.specs.Fault.{lose, reset, repeat, hold, flip, replay, pull, plug}
-use Rattle.mapper_bodies.specs.Mapping.{RoutePart}
+use Rattle.world_defs.specs.declared.moved.Why.{Why}
+use Rattle.world_defs.specs.declared.moved.Why.TheVariants.{OutOfRange as AwayOutOfRange, NotRoute as AwayNotRoute}
+use Rattle.world_defs.specs.declared.moved.Why.TheVariants.{NoCable as AwayNoCable, NewCable as AwayNewCable}
+use Rattle.world_defs.specs.declared.moved.Moved.{Moved}
+use Rattle.world_defs.specs.declared.moved.Moved.TheVariants.{To, AtHost, Dropped as MovedDropped}
+use Rattle.world_defs.specs.declared.moved.Moved.TheVariants.{Blocked as MovedBlocked, Empty}
+use Rattle.world_defs.specs.declared.replayed.Replayed.{Replayed}
+use Rattle.world_defs.specs.declared.replayed.Replayed.TheVariants.{Back, Busy, Unknown}
+use Rattle.world_defs.specs.Links.{LinkState, packet_in, put}
+use Rattle.world_defs.specs.Advance.{advance}
+use Rattle.world_defs.specs.Fault.{lose, reset, repeat, hold, flip, replay, pull, plug}
+use Rattle.world_defs.specs.Mapping.{RoutePart}
 use Rattle.world_defs.specs.declared.event.Event.{Event}
 use Rattle.world_defs.specs.declared.event.Event.TheVariants.{Ask, Part, Inject, Advance, Lose, Repeat, Hold, Flip}
 use Rattle.world_defs.specs.declared.event.Event.TheVariants.{Replay, Reset, Expire, GiveUp, Begin, Close, Provide}
@@ -33,8 +33,7 @@ use Rattle.world_defs.specs.declared.effect.Effect.TheVariants.{Said}
 use Rattle.world_defs.specs.declared.effect.Said.TheVariants.{Done}
 use Rattle.world_defs.specs.declared.effect.Cause.{Cause}
 use Rattle.world_defs.specs.declared.effect.Cause.TheVariants.{OutOfRange, NotRoute, NoCable, NewCable, BadCrc}
-use Rattle.world_defs.specs.declared.effect.Cause.TheVariants.{RouteLeft}
-use Rattle.world_defs.specs.declared.effect.Cause.TheVariants.{UnknownType, Malformed, NotMine}
+use Rattle.world_defs.specs.declared.effect.Cause.TheVariants.{RouteLeft, UnknownType, Malformed, NotMine}
 use Rattle.world_defs.specs.declared.fault.Fault.{Fault}
 use Rattle.world_defs.specs.declared.fault.Fault.TheVariants.{Lose as LoseFault, Repeat as RepeatFault}
 use Rattle.world_defs.specs.declared.fault.Fault.TheVariants.{Hold as HoldFault, Flip as FlipFault, Pull as PullFault}

@@ -6,8 +6,8 @@ use Rattle.std.specs.List.{filter}
 use Rattle.std.specs.Map.{lookup}
 use Rattle.net_defs.specs.declared.route.Route.{Route}
 use Rattle.net_defs.specs.RouteSet.{same_routes}
-use Rattle.link_defs.specs.Fault.{epoch_limit}
-use Rattle.mapper_bodies.specs.Mapping.{RouteEntry, RoutePart}
+use Rattle.world_defs.specs.Fault.{epoch_limit}
+use Rattle.world_defs.specs.Mapping.{RouteEntry, RoutePart}
 use Rattle.world_defs.specs.declared.applied.Applied.{Applied}
 use Rattle.world_defs.specs.declared.applied.Applied.TheVariants.{Part, Active, Old}
 use Rattle.world_defs.specs.declared.standing.Standing.{Standing}

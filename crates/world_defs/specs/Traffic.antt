@@ -7,11 +7,11 @@ use Rattle.packet_defs.specs.declared.kind.Kind.TheVariants.{Gm}
 use Rattle.packet_defs.specs.RouteByte.{turn_of}
 use Rattle.packet_defs.specs.Packet.{head}
 use Rattle.packet_defs.specs.Host.{body_of}
-use Rattle.cable_history.specs.declared.wire.Wire.{Wire}
-use Rattle.cable_history.specs.History.{is_in_place, is_left}
-use Rattle.cable_history.specs.Crossed.{channels_by, channels_at, life_tail, is_new, is_cut}
-use Rattle.link_defs.specs.Kinds.{unrouted, is_gm}
-use Rattle.link_defs.specs.Links.{Held, Caught, packet_in}
+use Rattle.world_defs.specs.declared.wire.Wire.{Wire}
+use Rattle.world_defs.specs.History.{is_in_place, is_left}
+use Rattle.world_defs.specs.Crossed.{channels_by, channels_at, life_tail, is_new, is_cut}
+use Rattle.world_defs.specs.Kinds.{unrouted, is_gm}
+use Rattle.world_defs.specs.Links.{Held, Caught, packet_in}
 use Rattle.gm_defs.specs.declared.message.Message.{Message}
 use Rattle.gm_defs.specs.declared.frame.FrameHead.{FrameHead}
 use Rattle.gm_defs.specs.declared.frame.Ack.{Ack}

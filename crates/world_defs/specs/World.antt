@@ -9,10 +9,10 @@ use Rattle.std.specs.Ordering.{nat_cmp}
 use Rattle.net_defs.specs.declared.route.Route.{Route}
 use Rattle.net_defs.specs.Network.{Network}
 use Rattle.net_defs.specs.Route.{host_port}
-use Rattle.cable_history.specs.History.{fabric_now}
-use Rattle.cable_history.specs.Crossed.{leaving, is_new}
-use Rattle.link_defs.specs.Links.{LinkState, empty_links}
-use Rattle.link_defs.specs.Fault.{accept}
+use Rattle.world_defs.specs.History.{fabric_now}
+use Rattle.world_defs.specs.Crossed.{leaving, is_new}
+use Rattle.world_defs.specs.Links.{LinkState, empty_links}
+use Rattle.world_defs.specs.Fault.{accept}
 use Rattle.world_defs.specs.declared.fault.Fault.{Fault}
 use Rattle.world_defs.specs.declared.standing.Standing.{Standing}
 use Rattle.world_defs.specs.Table.{Adoption, whole_table, has_revoked, epoch_in, keeps_in, may_adopt_in, adopted_in}

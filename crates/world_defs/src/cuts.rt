@@ -3,8 +3,8 @@
 ghost use Rattle.std.specs.Prelude.{◌≡◌, ◌∷◌, [], ◌++◌, map, replicate, true, false, Some, None};
 ghost use Rattle.net_defs.specs.declared.place.Answer.{Answer};
 ghost use Rattle.net_defs.specs.Examples.{joined, host_end, switch_end};
-ghost use Rattle.cable_history.specs.Crossed.{leaving};
-ghost use Rattle.link_defs.specs.Links.{packet_in};
+ghost use Rattle.world_defs.specs.Crossed.{leaving};
+ghost use Rattle.world_defs.specs.Links.{packet_in};
 ghost use Rattle.world_defs.specs.declared.event.Event.{Event};
 ghost use Rattle.world_defs.specs.declared.effect.Cause.{Cause};
 ghost use Rattle.world_defs.specs.declared.effect.Effect.{Effect};

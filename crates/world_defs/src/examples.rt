@@ -4,7 +4,7 @@ ghost use Rattle.std.specs.Prelude.{◌≡◌, ℕ, ◌∷◌, [], ◌++◌, map
 ghost use Rattle.net_defs.specs.declared.place.Answer.{Answer};
 ghost use Rattle.gm_defs.specs.declared.token.TokenPlace.{TokenPlace};
 ghost use Rattle.gm_defs.specs.Token.{place_of_recv};
-ghost use Rattle.link_defs.specs.Links.{packet_in, is_idle};
+ghost use Rattle.world_defs.specs.Links.{packet_in, is_idle};
 ghost use Rattle.world_defs.specs.declared.effect.Effect.{Effect};
 ghost use Rattle.world_defs.specs.declared.effect.Said.{Said};
 ghost use Rattle.net_defs.specs.Examples.{two_hosts};

@@ -3,11 +3,11 @@
 use Rattle.std.proofs.Common.{◌≡◌, ℕ, ◌+◌, false, List, [], ◌∷◌, ◌++◌, map, refl, sym, ◌∙◌, ap, subst, arith}
 use Rattle.std.specs.Prelude.{Some, Result, Ok, Err, OnOk, OnErr, length}
 use Rattle.std.specs.List.{AllByRecursion}
-use Rattle.cable_history.specs.History.{CableHistory}
-use Rattle.cable_history.specs.Crossed.{life_channels, pulled_at}
-use Rattle.cable_history.specs.Later.{OnlyPulled}
-use Rattle.cable_history.proofs.Kept.{length-set-wire}
-use Rattle.cable_history.proofs.Later.{PullAt, pull_at-view}
+use Rattle.world_defs.specs.History.{CableHistory}
+use Rattle.world_defs.specs.Crossed.{life_channels, pulled_at}
+use Rattle.world_defs.specs.Later.{OnlyPulled}
+use Rattle.world_defs.proofs.CablesKept.{length-set-wire}
+use Rattle.world_defs.proofs.CablesLater.{PullAt, pull_at-view}
 use Rattle.world_defs.specs.declared.event.Event.{Event}
 use Rattle.world_defs.specs.declared.event.Event.TheVariants.{GiveUp}
 use Rattle.world_defs.specs.Cables.{is_plug, is_of_cables}

@@ -1,8 +1,8 @@
 -- A pass that changes nothing leaves the world as it was, and one over links without a packet is such a pass.
 use Rattle.std.proofs.Common.{◌≡◌, ℕ, Bool, true, false, List, [], ◌∷◌, map, length, refl, sym, ◌∙◌, ap, subst, arith}
-use Rattle.link_defs.specs.Hops.{changes as moves}
-use Rattle.link_defs.specs.Links.{is_idle}
-use Rattle.link_defs.specs.Advance.{advance}
+use Rattle.world_defs.specs.Hops.{changes as moves}
+use Rattle.world_defs.specs.Links.{is_idle}
+use Rattle.world_defs.specs.Advance.{advance}
 use Rattle.world_defs.specs.declared.event.Event.TheVariants.{Advance}
 use Rattle.world_defs.specs.World.{WorldState}
 use Rattle.world_defs.specs.Step.{step, steps}

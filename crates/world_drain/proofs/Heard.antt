@@ -11,7 +11,7 @@ use Rattle.world_defs.specs.Step.{step, steps}
 use Rattle.world_defs.specs.Drain.{channels_of}
 use Rattle.world_defs.proofs.LogViews.{pass}
 use Rattle.world_defs.specs.Asking.{probed_host}
-use Rattle.link_defs.specs.Hops.{total_hops}
+use Rattle.world_defs.specs.Hops.{total_hops}
 use Rattle.world_laws.proofs.Repeating.{Chains, either as by-still, up_to-chain}
 use Rattle.world_defs.specs.Log.{Log, still}
 use Rattle.world_defs.specs.Logs as log

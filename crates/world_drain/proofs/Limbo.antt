@@ -4,11 +4,11 @@ use Rattle.std.specs.List.{AllByRecursion, find}
 use Rattle.std.specs.Map.{remove_entry}
 use Rattle.std.proofs.lemmas.Bool.Decides.{nat_tests}
 use Rattle.net_defs.proofs.Distinct.{all-weaker}
-use Rattle.link_defs.specs.declared.replayed.Replayed.{Replayed}
-use Rattle.link_defs.specs.declared.replayed.Replayed.TheVariants.{Back, Busy}
-use Rattle.link_defs.specs.Links.{Caught, LinkState, packet_in}
-use Rattle.link_defs.specs.Fault.{caught_as, released, replay_of, next_limbo}
-use Rattle.link_defs.specs.Shape.{IsLinks, Rise}
+use Rattle.world_defs.specs.declared.replayed.Replayed.{Replayed}
+use Rattle.world_defs.specs.declared.replayed.Replayed.TheVariants.{Back, Busy}
+use Rattle.world_defs.specs.Links.{Caught, LinkState, packet_in}
+use Rattle.world_defs.specs.Fault.{caught_as, released, replay_of, next_limbo}
+use Rattle.world_defs.specs.Shape.{IsLinks, Rise}
 use Rattle.world_defs.specs.declared.event.Event.TheVariants.{Replay}
 use Rattle.world_defs.specs.World.{WorldState}
 use Rattle.world_defs.specs.Step.{of_replay, replayed, step}

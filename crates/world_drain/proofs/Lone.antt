@@ -3,8 +3,8 @@ use Rattle.std.proofs.Common.{◌≡◌, ◌≢◌, ◌<◌, ◌≤◌, ℕ, zer
 use Rattle.std.specs.List.{AllByRecursion, range_with_len}
 use Rattle.std.proofs.lemmas.Bool.{cases_lt}
 use Rattle.std.proofs.lemmas.Bool.Decides.{nat_tests}
-use Rattle.link_defs.specs.Links.{LinkState, packet_in}
-use Rattle.link_defs.specs.Advance.{advance}
+use Rattle.world_defs.specs.Links.{LinkState, packet_in}
+use Rattle.world_defs.specs.Advance.{advance}
 use Rattle.link_model.specs.FullSlots.{IsLone}
 use Rattle.link_model.specs.Hop.{IsRun}
 use Rattle.link_model.proofs.Runs.{AreOthersEmpty, behind, advance-leaves, run-others, moved-below}

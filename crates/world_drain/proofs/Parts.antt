@@ -1,7 +1,7 @@
 -- Parts of a drain: nothing yet, one part after another, and a pass.
 use Rattle.std.proofs.Common.{◌≡◌, ◌≢◌, Bool, true, false, [], refl, sym, ◌∙◌, ap, subst, arith}
 use Rattle.std.proofs.lemmas.Bool.Decides.{nat_tests}
-use Rattle.link_defs.specs.Links.{is_idle}
+use Rattle.world_defs.specs.Links.{is_idle}
 use Rattle.world_defs.specs.World.{WorldState}
 use Rattle.world_defs.specs.Drain.{changes}
 use Rattle.world_defs.proofs.LogViews.{pass}

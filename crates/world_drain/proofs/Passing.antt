@@ -1,8 +1,8 @@
 -- A pass over the channels whose advance may change something comes to what a pass over all channels does.
 use Rattle.std.proofs.Common.{◌≡◌, ◌<◌, ◌≤◌, ℕ, zero, suc, ◌+◌, ◌-◌, List, [], ◌∷◌, map, length, None, refl, sym, ◌∙◌, ap, subst, arith}
 use Rattle.std.specs.List.{range_with_len}
-use Rattle.link_defs.specs.Links.{packet_in}
-use Rattle.link_defs.specs.Advance.{advance_of}
+use Rattle.world_defs.specs.Links.{packet_in}
+use Rattle.world_defs.specs.Advance.{advance_of}
 use Rattle.link_model.proofs.Runs.{advance-leaves}
 use Rattle.world_defs.specs.declared.event.Event.TheVariants.{Advance}
 use Rattle.world_defs.specs.declared.effect.Effect.{Effect}

@@ -4,9 +4,9 @@ use Rattle.std.specs.List.{find, list_all, range_with_len}
 use Rattle.std.proofs.lemmas.Bool.Decides.{nat_tests}
 use Rattle.std.specs.Option.{option_map_or}
 use Rattle.net_defs.specs.Route.{host_port}
-use Rattle.cable_history.specs.Crossed.{leaving}
-use Rattle.link_defs.specs.Links.{Caught}
-use Rattle.link_defs.specs.Fault.{next_limbo}
+use Rattle.world_defs.specs.Crossed.{leaving}
+use Rattle.world_defs.specs.Links.{Caught}
+use Rattle.world_defs.specs.Fault.{next_limbo}
 use Rattle.world_defs.specs.Node.{Outgoing, to_send}
 use Rattle.world_defs.specs.World.{WorldState, node_at, addresses, may_send, has_to_send}
 use Rattle.world_defs.specs.Settle.{is_quiet}

@@ -1,7 +1,7 @@
 -- Replays under way: those so far, and those of the serials from a number on, are all of them.
 use Rattle.std.proofs.Common.{◌≡◌, ◌<◌, ◌≤◌, ℕ, ◌+◌, ◌^◌, Bool, false, ◌||◌, List, [], ◌∷◌, nat_lt, Some, None, refl, sym, ◌∙◌, ap, subst, arith}
-use Rattle.link_defs.specs.Fault.{next_limbo}
-use Rattle.link_defs.specs.Shape.{IsLinks}
+use Rattle.world_defs.specs.Fault.{next_limbo}
+use Rattle.world_defs.specs.Shape.{IsLinks}
 use Rattle.world_defs.specs.declared.event.Event.TheVariants.{Replay}
 use Rattle.world_defs.specs.World.{WorldState}
 use Rattle.world_defs.specs.Step.{step}

@@ -3,7 +3,7 @@ use Rattle.std.proofs.Common.{◌≡◌, ◌<◌, ◌≤◌, ℕ, zero, suc, ◌
 use Rattle.std.specs.Prelude.{Result, Ok, Err, IfOk, OnOk}
 use Rattle.std.specs.List.{range_with_len}
 use Rattle.std.proofs.Math.ListN.{length-set}
-use Rattle.link_defs.specs.Links.{Held, packet_in, emptied, is_idle}
+use Rattle.world_defs.specs.Links.{Held, packet_in, emptied, is_idle}
 use Rattle.world_defs.specs.declared.event.Event.TheVariants.{Reset}
 use Rattle.world_defs.specs.declared.effect.Effect.{Effect}
 use Rattle.world_defs.specs.declared.effect.Effect.TheVariants.{Idle, Reset as WasReset}

@@ -1,6 +1,6 @@
 -- A drain under way: passes that each changed something led here.
 use Rattle.std.proofs.Common.{◌≡◌, ◌≢◌, ◌<◌, ◌≤◌, ◌+◌, [], map, refl, sym, ◌∙◌, ap, subst, arith}
-use Rattle.link_defs.specs.Hops.{total_hops}
+use Rattle.world_defs.specs.Hops.{total_hops}
 use Rattle.world_defs.specs.declared.event.Event.TheVariants.{Advance}
 use Rattle.world_defs.specs.EightBits.{IsByteEvent}
 use Rattle.world_defs.specs.World.{WorldState}

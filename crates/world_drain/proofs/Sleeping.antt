@@ -5,14 +5,14 @@ use Rattle.std.specs.Prelude.{IfSome, IfNone}
 use Rattle.std.proofs.Math.ListN.{length-set}
 use Rattle.std.proofs.lemmas.Bool.{cases_eq, cases_lt, cases_order, false≢true}
 use Rattle.std.proofs.lemmas.List.{get_or-set_same, get_or-set_other, get_or_past}
-use Rattle.link_defs.specs.declared.moved.Course.{Course}
-use Rattle.link_defs.specs.declared.moved.Course.TheVariants.{Arrives, Enters, Drops}
-use Rattle.link_defs.specs.declared.moved.Moved.{Moved as Went}
-use Rattle.link_defs.specs.declared.moved.Moved.TheVariants.{To, AtHost, Dropped, Blocked as Waits, Empty}
-use Rattle.cable_history.specs.Crossed.{life_channels}
-use Rattle.link_defs.specs.Links.{Held, LinkState, packet_in, emptied}
-use Rattle.link_defs.specs.Advance.{course, entered, gone_on, advance_of, advance}
-use Rattle.link_defs.specs.Hops.{changes as moves}
+use Rattle.world_defs.specs.declared.moved.Course.{Course}
+use Rattle.world_defs.specs.declared.moved.Course.TheVariants.{Arrives, Enters, Drops}
+use Rattle.world_defs.specs.declared.moved.Moved.{Moved as Went}
+use Rattle.world_defs.specs.declared.moved.Moved.TheVariants.{To, AtHost, Dropped, Blocked as Waits, Empty}
+use Rattle.world_defs.specs.Crossed.{life_channels}
+use Rattle.world_defs.specs.Links.{Held, LinkState, packet_in, emptied}
+use Rattle.world_defs.specs.Advance.{course, entered, gone_on, advance_of, advance}
+use Rattle.world_defs.specs.Hops.{changes as moves}
 use Rattle.link_model.proofs.Stepping.{course-below}
 use Rattle.link_model.specs.Full.{IsNextFull}
 use Rattle.link_model.specs.declared.hop.Hop.{Hop}

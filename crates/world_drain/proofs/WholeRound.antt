@@ -1,6 +1,6 @@
 -- Rounds under way, and a settle.
 use Rattle.std.proofs.Common.{◌≡◌, ◌<◌, ◌≤◌, ◌+◌, ◌^◌, ℕ, Bool, true, false, not, ◌||◌, length, nat_eq, nat_lt, sym, ◌∙◌, ap, subst, arith}
-use Rattle.link_defs.specs.Links.{is_idle}
+use Rattle.world_defs.specs.Links.{is_idle}
 use Rattle.world_defs.specs.World.{WorldState}
 use Rattle.world_defs.specs.Settle.{unacknowledged_in, is_last_round}
 use Rattle.world_laws.specs.Shape.{HasSenders}

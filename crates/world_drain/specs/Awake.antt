@@ -2,9 +2,9 @@
 -- nothing.
 use Rattle.std.specs.Prelude.{◌≡◌, ◌≢◌, ◌⊎◌, ℕ, ◌+◌, ◌*◌, ◌<◌, ◌≤◌, List, length, slice_index_or, None, Some}
 use Rattle.std.specs.Prelude.{is_some, true, false}
-use Rattle.link_defs.specs.declared.moved.Course.TheVariants.{Enters}
-use Rattle.link_defs.specs.Links.{Held, LinkState, packet_in}
-use Rattle.link_defs.specs.Advance.{course}
+use Rattle.world_defs.specs.declared.moved.Course.TheVariants.{Enters}
+use Rattle.world_defs.specs.Links.{Held, LinkState, packet_in}
+use Rattle.world_defs.specs.Advance.{course}
 use Rattle.number_marks.specs.Marks.{mark_at}
 use Rattle.world_defs.specs.declared.event.Event.TheVariants.{Advance}
 use Rattle.link_model.specs.declared.hop.Hop.{Hop}

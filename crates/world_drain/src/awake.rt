@@ -10,7 +10,7 @@
 
 ghost use Rattle.std.specs.Prelude.{◌≡◌, ℕ, ◌+◌, ◌*◌, ◌<◌, ◌≤◌, length, slice_index_or, slice_set, None, IfOk};
 ghost use Rattle.std.specs.Prelude.{IfSome, IfNone};
-ghost use Rattle.link_defs.specs.Links.{packet_in};
+ghost use Rattle.world_defs.specs.Links.{packet_in};
 ghost use Rattle.number_marks.specs.Marks.{IsWritten, mark_at};
 ghost use Rattle.world_drain.specs.Awake.{AreAwake, AreAwakeBut, AreAwakeOnce, AreAwakeBehind, IsNextAwake};
 ghost use Rattle.world_drain.specs.Awake.{IsStill, WaitsFor};

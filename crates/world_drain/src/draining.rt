@@ -1,7 +1,7 @@
 //! Many events in a row: all packets run out.
 
 ghost use Rattle.std.specs.Prelude.{◌≡◌, ◌<◌, ◌≤◌, ◌∷◌, [], length, IfOk, IfSome, OnOk, OnErr};
-ghost use Rattle.link_defs.specs.Hops.{total_hops};
+ghost use Rattle.world_defs.specs.Hops.{total_hops};
 ghost use Rattle.world_defs.specs.World.{host_count};
 ghost use Rattle.world_defs.specs.declared.event.Event.TheVariants.{Advance};
 ghost use Rattle.world_defs.specs.Step.{step};

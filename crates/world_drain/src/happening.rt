@@ -1,7 +1,7 @@
 //! One event.
 
 ghost use Rattle.std.specs.Prelude.{◌≡◌, ◌≤◌, length, true, IfOk, OnOk, OnErr};
-ghost use Rattle.cable_history.specs.Later.{OnlyPulled, IsLater};
+ghost use Rattle.world_defs.specs.Later.{OnlyPulled, IsLater};
 ghost use Rattle.world_defs.specs.World.{host_count};
 ghost use Rattle.world_defs.specs.declared.event.Event.TheVariants.{Ask, Inject};
 ghost use Rattle.world_defs.specs.Drain.{changed};

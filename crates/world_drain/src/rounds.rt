@@ -2,8 +2,8 @@
 
 ghost use Rattle.std.specs.Prelude.{◌≡◌, ◌≤◌, ◌<◌, ◌+◌, ◌||◌, true, not, nat_eq, nat_lt, min, length};
 ghost use Rattle.std.specs.Prelude.{IfOk, OnOk, OnErr};
-ghost use Rattle.cable_history.specs.Later.{OnlyPulled};
-ghost use Rattle.link_defs.specs.Links.{is_idle};
+ghost use Rattle.world_defs.specs.Later.{OnlyPulled};
+ghost use Rattle.world_defs.specs.Links.{is_idle};
 ghost use Rattle.world_defs.specs.World.{host_count, last_count};
 ghost use Rattle.world_defs.specs.declared.event.Event.TheVariants.{Expire};
 ghost use Rattle.world_defs.specs.Step.{step, after_all};

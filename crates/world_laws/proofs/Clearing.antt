@@ -2,9 +2,9 @@
 use Rattle.std.proofs.Common.{◌≡◌, ◌<◌, ◌+◌, ℕ, zero, suc, Bool, true, false, List, [], ◌∷◌, map, length, get_or, set, Option, Some, None, is_some, is_none, refl, sym, ◌∙◌, ap, subst, arith, true≢false}
 use Rattle.std.specs.List.{AllByRecursion, list_all}
 use Rattle.std.proofs.Math.ListN.{length-set}
-use Rattle.link_defs.specs.Links.{Held, LinkState, packet_in, emptied, is_idle}
-use Rattle.link_defs.specs.Fault.{reset}
-use Rattle.link_defs.proofs.Idling.{lose-idle}
+use Rattle.world_defs.specs.Links.{Held, LinkState, packet_in, emptied, is_idle}
+use Rattle.world_defs.specs.Fault.{reset}
+use Rattle.world_defs.proofs.Idling.{lose-idle}
 use Rattle.world_defs.specs.declared.event.Event.TheVariants.{Reset}
 use Rattle.world_defs.specs.declared.effect.Effect.TheVariants.{Reset as WasReset}
 use Rattle.world_defs.specs.World.{WorldState}

@@ -1,7 +1,7 @@
 -- What each event does to the counts.
 use Rattle.std.proofs.Common.{◌≡◌, ◌≤◌, ◌+◌, ℕ, Bool, true, false, length, refl, sym, ◌∙◌, ap, arith, true≢false}
-use Rattle.link_defs.specs.Links.{LinkState}
-use Rattle.link_defs.specs.Step.{Step, Advance as AdvanceLinks, stepped}
+use Rattle.world_defs.specs.Links.{LinkState}
+use Rattle.world_defs.specs.LinkStep.{Step, Advance as AdvanceLinks, stepped}
 use Rattle.world_defs.specs.declared.event.Event.{Event}
 use Rattle.world_defs.specs.declared.event.Event.TheVariants.{Inject, Advance, Replay, Reset, Expire, GiveUp}
 use Rattle.world_defs.specs.declared.effect.Cause.{Cause}

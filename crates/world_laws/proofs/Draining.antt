@@ -3,12 +3,12 @@ use Rattle.std.proofs.Common.{◌≡◌, ◌≢◌, ◌<◌, ◌≤◌, ◌+◌,
 use Rattle.std.specs.List.{AllByRecursion, range_with_len}
 use Rattle.std.proofs.lemmas.Bool.{cases_lt}
 use Rattle.std.proofs.lemmas.Bool.Decides.{nat_tests}
-use Rattle.link_defs.specs.declared.moved.Moved.{Moved}
-use Rattle.link_defs.specs.declared.moved.Moved.TheVariants.{To, AtHost, Dropped as MovedDropped, Blocked as MovedBlocked, Empty}
-use Rattle.link_defs.specs.Links.{LinkState, is_idle}
-use Rattle.link_defs.specs.Advance.{advance}
-use Rattle.link_defs.specs.Hops.{total_hops, is_still_below, is_stuck, changes as moves}
-use Rattle.link_defs.proofs.HopsLeft.{advance-hops, advance-still}
+use Rattle.world_defs.specs.declared.moved.Moved.{Moved}
+use Rattle.world_defs.specs.declared.moved.Moved.TheVariants.{To, AtHost, Dropped as MovedDropped, Blocked as MovedBlocked, Empty}
+use Rattle.world_defs.specs.Links.{LinkState, is_idle}
+use Rattle.world_defs.specs.Advance.{advance}
+use Rattle.world_defs.specs.Hops.{total_hops, is_still_below, is_stuck, changes as moves}
+use Rattle.world_defs.proofs.HopsLeft.{advance-hops, advance-still}
 use Rattle.world_defs.specs.declared.event.Event.TheVariants.{Advance}
 use Rattle.world_defs.specs.declared.effect.Effect.{Effect}
 use Rattle.world_defs.specs.declared.arrival.Arrival.{Arrival}

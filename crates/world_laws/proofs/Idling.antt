@@ -3,19 +3,19 @@ use Rattle.std.proofs.Common.{◌≡◌, ◌≤◌, ◌+◌, ◌*◌, ℕ, Bool,
 use Rattle.std.proofs.lemmas.Bool.Decides.{nat_tests}
 use Rattle.net_defs.specs.Network.{far}
 use Rattle.net_defs.specs.Route.{host_port}
-use Rattle.cable_history.specs.Crossed.{leaving, is_new}
+use Rattle.world_defs.specs.Crossed.{leaving, is_new}
 use Rattle.net_defs.proofs.Growing.{no_some}
 use Rattle.packet_defs.specs.Burst.{flipped as flipped_bytes, may_flip}
-use Rattle.link_defs.specs.declared.moved.Course.{Course}
-use Rattle.link_defs.specs.declared.moved.Course.TheVariants.{Arrives, Enters, Drops}
-use Rattle.link_defs.specs.declared.moved.Moved.{Moved}
-use Rattle.link_defs.specs.declared.moved.Moved.TheVariants.{To, AtHost, Dropped as MovedDropped, Blocked as MovedBlocked, Empty}
-use Rattle.link_defs.specs.declared.replayed.Replayed.{Replayed}
-use Rattle.link_defs.specs.declared.replayed.Replayed.TheVariants.{Back, Busy}
-use Rattle.link_defs.specs.Links.{Held, Caught, LinkState, packet_in, with_packet, emptied}
-use Rattle.link_defs.specs.Advance.{course, entered, gone_on, advance_of, advance}
-use Rattle.link_defs.specs.Fault.{lose, repeat, repeat_of, hold, hold_of, flip, flip_of, is_used_up, with_caught, caught_as, released, replay_of, pull_by, pull, plug}
-use Rattle.mapper_bodies.specs.Mapping.{RoutePart}
+use Rattle.world_defs.specs.declared.moved.Course.{Course}
+use Rattle.world_defs.specs.declared.moved.Course.TheVariants.{Arrives, Enters, Drops}
+use Rattle.world_defs.specs.declared.moved.Moved.{Moved}
+use Rattle.world_defs.specs.declared.moved.Moved.TheVariants.{To, AtHost, Dropped as MovedDropped, Blocked as MovedBlocked, Empty}
+use Rattle.world_defs.specs.declared.replayed.Replayed.{Replayed}
+use Rattle.world_defs.specs.declared.replayed.Replayed.TheVariants.{Back, Busy}
+use Rattle.world_defs.specs.Links.{Held, Caught, LinkState, packet_in, with_packet, emptied}
+use Rattle.world_defs.specs.Advance.{course, entered, gone_on, advance_of, advance}
+use Rattle.world_defs.specs.Fault.{lose, repeat, repeat_of, hold, hold_of, flip, flip_of, is_used_up, with_caught, caught_as, released, replay_of, pull_by, pull, plug}
+use Rattle.world_defs.specs.Mapping.{RoutePart}
 use Rattle.world_defs.specs.declared.event.Event.{Event}
 use Rattle.world_defs.specs.declared.event.Event.TheVariants.{Ask, Part, Inject, Advance, Lose, Repeat, Hold, Flip, Replay, Reset, Expire, GiveUp, Begin, Close, Provide, Send, Poll, Revoke, Pull, Plug}
 use Rattle.world_defs.specs.declared.effect.Cause.{Cause}

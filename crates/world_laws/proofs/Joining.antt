@@ -10,12 +10,12 @@ use Rattle.net_defs.specs.declared.fault.GraphFault.TheVariants.{PortRange, NoVe
 use Rattle.net_defs.specs.Network.{Network, NamedSwitch, has_vertex, has_port, ports_of, same_end, far}
 use Rattle.net_defs.specs.Building.{is_used, cable_refusal}
 use Rattle.net_defs.proofs.Ends.{both, same_end-true, same_end-refl}
-use Rattle.cable_history.specs.History.{fabric_now, is_in_place, may_plug, with_plugged, cable_limit}
-use Rattle.cable_history.specs.Crossed.{leaving}
-use Rattle.cable_history.proofs.Fewer.{none-far}
-use Rattle.cable_history.proofs.There.{none-leaves}
-use Rattle.link_defs.specs.Links.{LinkState}
-use Rattle.link_defs.specs.Fault.{pull_by, pull, plug}
+use Rattle.world_defs.specs.History.{fabric_now, is_in_place, may_plug, with_plugged, cable_limit}
+use Rattle.world_defs.specs.Crossed.{leaving}
+use Rattle.world_defs.proofs.Fewer.{none-far}
+use Rattle.world_defs.proofs.There.{none-leaves}
+use Rattle.world_defs.specs.Links.{LinkState}
+use Rattle.world_defs.specs.Fault.{pull_by, pull, plug}
 use Rattle.world_defs.specs.World.{WorldState, fabric_of}
 use Rattle.world_laws.specs.Idle.{CannotPlug}
 

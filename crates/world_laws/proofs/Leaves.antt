@@ -1,10 +1,10 @@
 -- What an event leaves of a world: one step in the links, one host changed, one packet dropped, one injection, one call of a client, or what of
 -- these follows each other. Whatever holds from a world to the next at each of these holds at every event.
 use Rattle.std.proofs.Common.{◌≡◌, ◌<◌, ℕ, false, Some, refl}
-use Rattle.cable_history.specs.Later.{IsLater}
-use Rattle.cable_history.proofs.Later.{pulled-later}
-use Rattle.link_defs.specs.Links.{LinkState}
-use Rattle.link_defs.specs.Step.{Step, Advance as AdvanceLinks, stepped}
+use Rattle.world_defs.specs.Later.{IsLater}
+use Rattle.world_defs.proofs.CablesLater.{pulled-later}
+use Rattle.world_defs.specs.Links.{LinkState}
+use Rattle.world_defs.specs.LinkStep.{Step, Advance as AdvanceLinks, stepped}
 use Rattle.world_defs.specs.declared.event.Event.{Event}
 use Rattle.world_defs.specs.declared.event.Event.TheVariants.{Begin, Close, Provide, Send, Poll}
 use Rattle.world_defs.specs.declared.effect.Effect.{Effect}
@@ -18,7 +18,7 @@ use Rattle.world_defs.specs.Step.{planned_strikes, sent_out, gives_up_epoch, ste
 use Rattle.world_defs.proofs.Views.{HostChange, CallChange, ArrivalChange, Change, view}
 use Rattle.world_defs.proofs.Calls.{call_view}
 use Rattle.world_defs.proofs.Kept.{links-later}
-use Rattle.link_defs.proofs.Later.{packets-only}
+use Rattle.world_defs.proofs.LinksLater.{packets-only}
 use Rattle.world_laws.proofs.Nodes.{NodeKept, hear-kept, given_up-kept, table-kept, staged-kept, node_expired-kept}
 use Rattle.world_laws.proofs.Calls.{CallKept, call-kept}
 

@@ -3,7 +3,7 @@ use Rattle.std.proofs.Common.{◌≡◌, ◌≢◌, ◌↔◌, ◌<◌, ◌≤�
 use Rattle.std.specs.List.{AllByRecursion, range_with_len, list_all, list_any}
 use Rattle.std.proofs.lemmas.Bool.Decides.{nat_tests}
 use Rattle.net_defs.proofs.Ends.{both}
-use Rattle.link_defs.specs.Links.{Caught}
+use Rattle.world_defs.specs.Links.{Caught}
 use Rattle.world_defs.specs.Node.{lane_of, sending_lane, lane_at, unacknowledged_to}
 use Rattle.world_defs.proofs.Lanes.{lane-within}
 use Rattle.world_defs.specs.World.{WorldState, host_count, node_at, addresses, has_to_send, sum_of}

@@ -3,11 +3,11 @@ use Rattle.std.proofs.Common.{◌≡◌, ◌≢◌, ◌<◌, ◌≤◌, ◌+◌,
 use Rattle.std.specs.Map.{lookup, remove_entry}
 use Rattle.std.proofs.lemmas.Bool.Decides.{nat_tests}
 use Rattle.net_defs.specs.Route.{host_port}
-use Rattle.cable_history.specs.Crossed.{leaving}
-use Rattle.link_defs.specs.declared.replayed.Replayed.{Replayed}
-use Rattle.link_defs.specs.declared.replayed.Replayed.TheVariants.{Back, Busy}
-use Rattle.link_defs.specs.Links.{Caught, LinkState, packet_in, with_packet}
-use Rattle.link_defs.specs.Fault.{caught_as, released, replay_of}
+use Rattle.world_defs.specs.Crossed.{leaving}
+use Rattle.world_defs.specs.declared.replayed.Replayed.{Replayed}
+use Rattle.world_defs.specs.declared.replayed.Replayed.TheVariants.{Back, Busy}
+use Rattle.world_defs.specs.Links.{Caught, LinkState, packet_in, with_packet}
+use Rattle.world_defs.specs.Fault.{caught_as, released, replay_of}
 use Rattle.world_defs.specs.declared.event.Event.{Event}
 use Rattle.world_defs.specs.declared.event.Event.TheVariants.{Inject, Advance, Replay, Reset, Expire, GiveUp}
 use Rattle.world_defs.specs.declared.effect.Effect.{Effect}
@@ -25,7 +25,7 @@ use Rattle.world_laws.proofs.Strikes.{planned_strikes-kept}
 use Rattle.world_laws.proofs.Draining.{one_if, changes-push}
 use Rattle.world_defs.proofs.LogRows.{Clears, clear-row, expiries-row, given_up-row}
 use Rattle.world_laws.proofs.Along.{Along, row-along}
-use Rattle.link_defs.specs.Step.{Step, stepped}
+use Rattle.world_defs.specs.LinkStep.{Step, stepped}
 use Rattle.world_defs.proofs.Views.{LinksChange, Change, view}
 
 -- an event that neither injects nor changes limbo

@@ -1,8 +1,8 @@
 -- A drain, a clear and a settle are events in a row, and keep what those keep.
 use Rattle.std.proofs.Common.{◌≡◌, false, List, refl, sym, ◌∙◌, subst}
 use Rattle.net_defs.proofs.Distinct.{all-weaker}
-use Rattle.cable_history.specs.Later.{OnlyPulled}
-use Rattle.cable_history.proofs.Later.{pulled-on}
+use Rattle.world_defs.specs.Later.{OnlyPulled}
+use Rattle.world_defs.proofs.CablesLater.{pulled-on}
 use Rattle.world_defs.specs.declared.event.Event.{Event}
 use Rattle.world_defs.specs.declared.event.Event.TheVariants.{Advance, Reset, Inject, Replay, Expire, GiveUp}
 use Rattle.world_defs.specs.Cables.{is_plug, is_of_cables}

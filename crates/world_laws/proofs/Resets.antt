@@ -1,8 +1,8 @@
 -- Resets come only where links are stuck: where something keeps them from that throughout, a settle has none.
 use Rattle.std.proofs.Common.{◌≡◌, ◌↔◌, ◌+◌, ℕ, true, false, List, [], ◌∷◌, ◌++◌, map, length, ◌⊎◌, inl, inr, ⊎_elim, Option, Some, None, is_none, refl, sym, ◌∙◌, subst, arith, true≢false}
 use Rattle.std.specs.List.{AllByRecursion, list_all, range_with_len}
-use Rattle.link_defs.specs.Links.{Held, is_idle}
-use Rattle.link_defs.specs.Hops.{is_stuck}
+use Rattle.world_defs.specs.Links.{Held, is_idle}
+use Rattle.world_defs.specs.Hops.{is_stuck}
 use Rattle.world_defs.specs.declared.event.Event.{Event}
 use Rattle.world_defs.specs.declared.event.Event.TheVariants.{Inject, Replay, Reset, GiveUp}
 use Rattle.world_defs.specs.World.{WorldState, addresses}

@@ -1,9 +1,9 @@
 -- Links without packets: a drain and a clear leave them alone, and a settle leaves such.
 use Rattle.std.proofs.Common.{◌≡◌, ℕ, zero, suc, nat_eq, if◌then◌else◌, ◌++◌, true, false, List, [], ◌∷◌, map, get_or, Option, Some, None, is_some, is_none, refl, sym, ◌∙◌, ap, arith, true≢false}
 use Rattle.std.specs.List.{list_all}
-use Rattle.link_defs.specs.Links.{Held, packet_in, is_idle}
-use Rattle.link_defs.specs.Advance.{advance_of, advance}
-use Rattle.link_defs.specs.Hops.{changes as moves}
+use Rattle.world_defs.specs.Links.{Held, packet_in, is_idle}
+use Rattle.world_defs.specs.Advance.{advance_of, advance}
+use Rattle.world_defs.specs.Hops.{changes as moves}
 use Rattle.world_defs.specs.declared.event.Event.TheVariants.{Inject, Advance, Replay, Reset, GiveUp}
 use Rattle.world_defs.specs.Logs.{Moved}
 use Rattle.world_defs.specs.World.{WorldState, addresses}

@@ -2,7 +2,7 @@
 use Rattle.std.proofs.Common.{◌≡◌, ◌<◌, ◌≤◌, ◌+◌, ℕ, Bool, true, false, not, ◌||◌, List, [], ◌∷◌, map, length, nat_eq, nat_lt, inl, inr, refl, sym, ◌∙◌, ap, arith, true≢false}
 use Rattle.std.specs.List.{range_with_len, list_any}
 use Rattle.std.proofs.lemmas.Bool.Decides.{nat_tests}
-use Rattle.link_defs.specs.Step.{stepped}
+use Rattle.world_defs.specs.LinkStep.{stepped}
 use Rattle.world_defs.specs.Node.{lane_of, lane_at, unacknowledged_on, unacknowledged_to}
 use Rattle.world_defs.specs.World.{WorldState, node_at, with_node, with_links, with_drop, addresses, sum_of}
 use Rattle.world_defs.specs.Step.{planned_strikes, sent_out}

@@ -4,13 +4,13 @@ use Rattle.std.proofs.Math.ListN.{length-set}
 use Rattle.std.proofs.lemmas.List.{length-replicate}
 use Rattle.net_defs.specs.declared.route.Route.{Route}
 use Rattle.net_defs.specs.Network.{Network}
-use Rattle.cable_history.specs.Later.{IsLater}
-use Rattle.cable_history.proofs.Later.{pulled-later, later-on, later-kept}
-use Rattle.link_defs.specs.Links.{LinkState}
-use Rattle.link_defs.specs.Fault.{accept}
-use Rattle.link_defs.specs.Shape.{IsLinks}
-use Rattle.link_defs.specs.Step.{Step, Put, Accept as AcceptLinks, stepped}
-use Rattle.link_defs.proofs.Shapes.{empty-links, stepped-cables, stepped-links}
+use Rattle.world_defs.specs.Later.{IsLater}
+use Rattle.world_defs.proofs.CablesLater.{pulled-later, later-on, later-kept}
+use Rattle.world_defs.specs.Links.{LinkState}
+use Rattle.world_defs.specs.Fault.{accept}
+use Rattle.world_defs.specs.Shape.{IsLinks}
+use Rattle.world_defs.specs.LinkStep.{Step, Put, Accept as AcceptLinks, stepped}
+use Rattle.world_defs.proofs.Shapes.{empty-links, stepped-cables, stepped-links}
 use Rattle.gm_defs.specs.Connection.{IsSender, starting}
 use Rattle.gm_defs.specs.Token.{PortState}
 use Rattle.world_defs.specs.declared.event.Event.{Event}

@@ -1,8 +1,8 @@
 -- Where no fault is planned for an injection of events that neither pull nor plug, they leave the cables.
 use Rattle.std.proofs.Common.{◌≡◌, ◌<◌, ◌≤◌, ◌+◌, ℕ, Bool, true, false, nat_eq, List, [], ◌∷◌, Some, None, cond, refl, sym, ap, ◌∙◌, true≢false, arith}
 use Rattle.std.specs.Map.{lookup, remove_entry}
-use Rattle.link_defs.specs.Step.{Step, Advance as AdvanceLinks, stepped}
-use Rattle.link_defs.proofs.Shapes.{stepped-cables}
+use Rattle.world_defs.specs.LinkStep.{Step, Advance as AdvanceLinks, stepped}
+use Rattle.world_defs.proofs.Shapes.{stepped-cables}
 use Rattle.world_defs.specs.declared.event.Event.{Event}
 use Rattle.world_defs.specs.declared.event.Event.TheVariants.{Pull, Plug}
 use Rattle.world_defs.specs.declared.effect.Effect.{Effect}

@@ -1,8 +1,8 @@
 -- What a drain and a clear come to.
 use Rattle.std.specs.Prelude.{◌≡◌, ◌↔◌, ◌⊎◌, ℕ, ◌+◌, ◌≤◌, true, List, [], ◌∷◌, ◌++◌, Option, Some, None}
-use Rattle.link_defs.specs.Links.{Held, is_idle}
-use Rattle.link_defs.specs.Advance.{advance}
-use Rattle.link_defs.specs.Hops.{total_hops, is_stuck}
+use Rattle.world_defs.specs.Links.{Held, is_idle}
+use Rattle.world_defs.specs.Advance.{advance}
+use Rattle.world_defs.specs.Hops.{total_hops, is_stuck}
 use Rattle.world_defs.specs.declared.event.Event.TheVariants.{Advance}
 use Rattle.world_defs.specs.declared.effect.Effect.{Effect}
 use Rattle.world_defs.specs.World.{WorldState}

@@ -1,7 +1,7 @@
 -- A drain, a clear and a settle are events in a row: what holds after every list of events holds after each of them.
 use Rattle.std.specs.Prelude.{◌≡◌, false, List, [], ◌∷◌}
-use Rattle.cable_history.specs.Later.{OnlyPulled}
-use Rattle.link_defs.specs.Hops.{is_stuck}
+use Rattle.world_defs.specs.Later.{OnlyPulled}
+use Rattle.world_defs.specs.Hops.{is_stuck}
 use Rattle.world_defs.specs.declared.event.Event.{Event}
 use Rattle.world_defs.specs.declared.event.Event.TheVariants.{Inject, Advance, Replay, Reset, Expire, GiveUp}
 use Rattle.world_defs.specs.World.{WorldState}

@@ -1,13 +1,12 @@
 -- A settle is a clear, and then rounds up to the last, each of passes up to its last: their bounds are enough.
 use Rattle.std.specs.Prelude.{◌≡◌, ◌+◌, ◌≤◌, true, length}
-use Rattle.link_defs.specs.Links.{is_idle}
+use Rattle.world_defs.specs.Links.{is_idle}
 use Rattle.world_defs.specs.World.{WorldState}
 use Rattle.world_defs.specs.Step.{after_all}
 use Rattle.world_defs.specs.Settle.{unacknowledged_in, expiries, pass_bound, round_bound, is_last_round}
 use Rattle.world_defs.specs.Log.{Log}
 use Rattle.world_defs.specs.Logs.{Moved, Rounds, clear, moved_both, is_last_pass, round_pass, round_passes}
-use Rattle.world_defs.specs.Logs.{rounds_both, one_round}
-use Rattle.world_defs.specs.Logs.{rounds, settle}
+use Rattle.world_defs.specs.Logs.{rounds_both, one_round, rounds, settle}
 use Rattle.world_laws.specs.Repeats.{Repeats}
 use Rattle.world_laws.specs.Shape.{HasSenders}
 

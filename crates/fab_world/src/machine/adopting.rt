@@ -1,8 +1,8 @@
 //! Routes are adopted, and parts of them staged.
 
 ghost use Rattle.std.specs.Prelude.{◌≡◌, true, Some, IfOk, IfSome, OnOk, OnErr, if◌then◌else◌};
-ghost use Rattle.link_defs.specs.Fault.{accept};
-ghost use Rattle.mapper_bodies.specs.Mapping.{is_part};
+ghost use Rattle.world_defs.specs.Fault.{accept};
+ghost use Rattle.world_defs.specs.Mapping.{is_part};
 ghost use Rattle.port_graph.specs.Routes.{HandsBack};
 ghost use Rattle.world_defs.specs.World.{host_count, standing_of, adopted_by};
 ghost use Rattle.world_defs.specs.Step.{part_staged, stage_at};

@@ -1,7 +1,7 @@
 //! A host puts a packet into its channel.
 
 ghost use Rattle.std.specs.Prelude.{◌≡◌, ◌<◌, ◌+◌, ◌&&◌, not, length, true, Some, option_map, IfOk, OnOk, OnErr};
-ghost use Rattle.cable_history.specs.Crossed.{is_new};
+ghost use Rattle.world_defs.specs.Crossed.{is_new};
 ghost use Rattle.world_defs.specs.Node.{to_send, packet_for, has_staged};
 ghost use Rattle.world_defs.specs.World.{WorldState, node_at, may_send, has_to_send};
 ghost use Rattle.world_defs.specs.Step.{injected, inject_one, planned_strikes};

@@ -2,7 +2,7 @@
 
 ghost use Rattle.std.specs.Prelude.{◌≡◌, ◌≤◌, length, true, Some, IfOk, OnOk, OnErr};
 ghost use Rattle.net_defs.specs.Route.{host_port};
-ghost use Rattle.cable_history.specs.Crossed.{leaving};
+ghost use Rattle.world_defs.specs.Crossed.{leaving};
 ghost use Rattle.world_defs.specs.World.{fabric_of};
 ghost use Rattle.world_defs.specs.Step.{asked, injected};
 ghost use Rattle.faulty_links.specs.Held.{of_world, can_inject};

@@ -1,8 +1,8 @@
 //! A channel's packet goes on.
 
 ghost use Rattle.std.specs.Prelude.{◌≡◌, ◌≢◌, ◌≤◌, ℕ, length, IfOk, OnErr};
-ghost use Rattle.link_defs.specs.declared.moved.Moved.TheVariants.{To};
-ghost use Rattle.link_defs.specs.Advance.{advance};
+ghost use Rattle.world_defs.specs.declared.moved.Moved.TheVariants.{To};
+ghost use Rattle.world_defs.specs.Advance.{advance};
 ghost use Rattle.link_model.specs.FullSlots.{IsLone};
 ghost use Rattle.world_defs.specs.Step.{advanced};
 ghost use Rattle.world_defs.specs.World.{fabric_of, host_count};

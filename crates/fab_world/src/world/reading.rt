@@ -3,10 +3,10 @@
 ghost use Rattle.std.specs.Prelude.{◌≡◌, ◌≢◌, ◌≤◌, ◌<◌, ◌^◌, ℕ, length, slice_get, true, is_some, option_map, Some};
 ghost use Rattle.std.specs.Prelude.{None};
 ghost use Rattle.std.specs.Prelude.{IfSome, IfNone};
-ghost use Rattle.cable_history.specs.Crossed.{leaving, life_channels, life_tail, life_head, is_new};
-ghost use Rattle.link_defs.specs.Hops.{total_hops};
-ghost use Rattle.link_defs.specs.Links.{packet_in, is_idle};
-ghost use Rattle.link_defs.specs.Fault.{next_limbo};
+ghost use Rattle.world_defs.specs.Crossed.{leaving, life_channels, life_tail, life_head, is_new};
+ghost use Rattle.world_defs.specs.Hops.{total_hops};
+ghost use Rattle.world_defs.specs.Links.{packet_in, is_idle};
+ghost use Rattle.world_defs.specs.Fault.{next_limbo};
 ghost use Rattle.link_model.specs.FullSlots.{full_count, IsLone};
 ghost use Rattle.link_model.specs.Full.{IsNextFull};
 ghost use Rattle.gm_defs.specs.Body.{is_prio};

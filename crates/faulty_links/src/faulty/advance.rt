@@ -1,14 +1,14 @@
 //! One step of a channel.
 
 ghost use Rattle.std.specs.Prelude.{◌≡◌, ◌≢◌, ◌<◌, ◌≤◌, ℕ, length, None, option_map, IfSome};
-ghost use Rattle.link_defs.specs.Advance.{advance};
+ghost use Rattle.world_defs.specs.Advance.{advance};
 ghost use Rattle.link_model.specs.FullSlots.{IsLone};
 ghost use Rattle.world_defs.specs.World.{WorldState};
 ghost use Rattle.world_defs.specs.Step.{advanced, cause_at_switch, cause_at_host};
 ghost use Rattle.faulty_links.specs.Held.{with_part, reaching, IsHeardAt, IsToldOf, CountsDrop, IsHopOf, IsRunOf};
 
 use super::FaultyLinks;
-use link_defs::{Moved, Why};
+use world_defs::{Moved, Why};
 use link_model::{Hop, Run};
 use myri_packet::Packet;
 use net_defs::Vertex;

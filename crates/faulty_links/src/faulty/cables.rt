@@ -1,14 +1,14 @@
 //! Cables that come and go, and are accepted.
 
 ghost use Rattle.std.specs.Prelude.{◌≡◌, ◌<◌, length, slice_get, Some, IfOk, OnErr};
-ghost use Rattle.cable_history.specs.Crossed.{is_new};
-ghost use Rattle.link_defs.specs.Fault.{accept};
+ghost use Rattle.world_defs.specs.Crossed.{is_new};
+ghost use Rattle.world_defs.specs.Fault.{accept};
 ghost use Rattle.world_defs.specs.World.{WorldState};
 ghost use Rattle.world_defs.specs.Step.{pulled, plugged};
 ghost use Rattle.faulty_links.specs.Held.{with_part};
 
 use super::FaultyLinks;
-use cable_history::Wire;
+use world_defs::Wire;
 use net_defs::End;
 use std::alloc::AllocError;
 use world_defs::{Effect, Said};

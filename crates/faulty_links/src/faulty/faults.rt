@@ -6,7 +6,7 @@ ghost use Rattle.world_defs.specs.Step.{lost, was_reset, repeated, held, flipped
 ghost use Rattle.faulty_links.specs.Held.{with_part};
 
 use super::FaultyLinks;
-use link_defs::Replayed;
+use world_defs::Replayed;
 use std::alloc::{AllocError, Global};
 use world_defs::Effect;
 

@@ -2,7 +2,7 @@
 
 ghost use Rattle.std.specs.Prelude.{◌≡◌, ◌<◌, ◌≤◌, ◌+◌, length, nat_eq, true, None, IfOk, IfErr, OnOk, OnErr};
 ghost use Rattle.std.specs.Map.{lookup};
-ghost use Rattle.link_defs.specs.Links.{packet_in, put};
+ghost use Rattle.world_defs.specs.Links.{packet_in, put};
 ghost use Rattle.world_defs.specs.World.{WorldState, planned};
 ghost use Rattle.world_defs.specs.Step.{fault_on, is_harm, planned_strikes};
 ghost use Rattle.faulty_links.specs.Held.{with_part, can_inject, pull_end, put_under_next};

@@ -1,6 +1,6 @@
 use Rattle.std.proofs.Common.{◌≡◌, ◌<◌, ◌∙◌, length, sym, ap, subst}
 use Rattle.net_defs.specs.Network.{Network, IsFabric}
-use Rattle.cable_history.specs.History.{fabric_at}
+use Rattle.world_defs.specs.History.{fabric_at}
 use Rattle.world_asking.specs.Prober.{WorldAsking, IsAsked}
 use Rattle.run_defs.specs.declared.line.MapWords.TheVariants.{Complete}
 use Rattle.route_making.specs.Kept.{IsKeptMap}

@@ -1,5 +1,5 @@
 use Rattle.std.proofs.Common.{◌∙◌, ap}
-use Rattle.link_defs.specs.Links.{is_idle}
+use Rattle.world_defs.specs.Links.{is_idle}
 use Rattle.world_asking.specs.Prober.{WorldAsking}
 use Rattle.library_example.proofs.Kept.{kept-new}
 use Rattle.library_example.proofs.main.Goals as goal

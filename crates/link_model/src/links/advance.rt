@@ -2,8 +2,8 @@
 
 ghost use Rattle.std.specs.Prelude.{◌≡◌, ◌≢◌, ◌<◌, ◌≤◌, ℕ, length, Some, IsSome, option_map, option_and_then};
 ghost use Rattle.std.specs.Prelude.{if◌then◌else◌};
-ghost use Rattle.link_defs.specs.Links.{packet_in, emptied};
-ghost use Rattle.link_defs.specs.Advance.{advance, course};
+ghost use Rattle.world_defs.specs.Links.{packet_in, emptied};
+ghost use Rattle.world_defs.specs.Advance.{advance, course};
 ghost use Rattle.link_model.specs.FullSlots.{IsLone};
 ghost use Rattle.link_model.specs.Hop.{IsHop, IsRun, entered_by};
 
@@ -11,7 +11,7 @@ use super::Links;
 use crate::Slot;
 use crate::course::{course, follow, next_channel, turned, without_turn};
 use crate::hop::{Hop, Run};
-use link_defs::{Course, Moved};
+use world_defs::{Course, Moved};
 use myri_packet::Packet;
 
 impl Links {

@@ -1,11 +1,11 @@
 //! Cables are pulled, plugged and accepted.
 
 ghost use Rattle.std.specs.Prelude.{◌≡◌, ◌<◌, length, slice_get, Some, IfOk, OnOk, OnErr};
-ghost use Rattle.cable_history.specs.Crossed.{is_new};
-ghost use Rattle.link_defs.specs.Fault.{pull, plug, accept};
+ghost use Rattle.world_defs.specs.Crossed.{is_new};
+ghost use Rattle.world_defs.specs.Fault.{pull, plug, accept};
 
 use super::Links;
-use cable_history::Wire;
+use world_defs::Wire;
 use net_defs::End;
 use std::alloc::AllocError;
 

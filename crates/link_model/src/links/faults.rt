@@ -1,12 +1,12 @@
 //! What a cable may do to a packet.
 
 ghost use Rattle.std.specs.Prelude.{◌≡◌, ◌<◌, false, length, Some, None, IsSome, IfOk, IfErr, OnOk, OnErr};
-ghost use Rattle.link_defs.specs.Links.{packet_in, with_packet};
-ghost use Rattle.link_defs.specs.Fault.{lose, reset, repeat, hold, flip, replay, with_caught, is_used_up};
+ghost use Rattle.world_defs.specs.Links.{packet_in, with_packet};
+ghost use Rattle.world_defs.specs.Fault.{lose, reset, repeat, hold, flip, replay, with_caught, is_used_up};
 
 use super::Links;
 use crate::Slot;
-use link_defs::Replayed;
+use world_defs::Replayed;
 use std::alloc::{AllocError, Global};
 
 impl Links {

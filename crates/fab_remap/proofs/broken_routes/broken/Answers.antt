@@ -1,5 +1,5 @@
 use Rattle.std.proofs.Common.{◌∙◌, ap}
-use Rattle.cable_history.specs.History.{fabric_at}
+use Rattle.world_defs.specs.History.{fabric_at}
 use Rattle.fab_remap.specs.Remap.{broken_pairs, stuck_pairs}
 use Rattle.fab_remap.proofs.Crossing.{pairs-some, pairs-none, pairs-told}
 use Rattle.fab_remap.proofs.broken_routes.broken.Goals as goal

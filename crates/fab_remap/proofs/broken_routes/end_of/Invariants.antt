@@ -1,7 +1,7 @@
 use Rattle.std.proofs.Common.{◌≡◌, drop}
 use Rattle.net_defs.specs.Network.{far}
 use Rattle.net_defs.specs.Route.{host_port, entered_after}
-use Rattle.cable_history.specs.History.{fabric_left}
+use Rattle.world_defs.specs.History.{fabric_left}
 use Rattle.fab_remap.proofs.broken_routes.end_of.Given as goal
 
 abbrev pub invariant-loop-turn : goal.invariant-loop-turn

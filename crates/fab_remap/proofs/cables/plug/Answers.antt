@@ -1,5 +1,5 @@
 use Rattle.std.proofs.Common.{sym}
-use Rattle.cable_history.specs.Later.{IsLater}
+use Rattle.world_defs.specs.Later.{IsLater}
 use Rattle.fab_remap.proofs.Possible.{plug-event}
 use Rattle.fab_remap.proofs.cables.plug.Goals as goal
 

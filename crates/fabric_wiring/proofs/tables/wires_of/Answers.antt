@@ -1,5 +1,5 @@
 use Rattle.std.proofs.Common.{◌∙◌, ap, ◌++◌, ◌∷◌, [], take, map}
-use Rattle.cable_history.specs.History.{first_wire}
+use Rattle.world_defs.specs.History.{first_wire}
 use Rattle.fabric_wiring.proofs.Wirings.{first-next}
 use Rattle.fabric_wiring.proofs.tables.wires_of.Goals as goal
 

@@ -1,5 +1,5 @@
 use Rattle.std.proofs.Common.{◌≡◌, take, map}
-use Rattle.cable_history.specs.History.{first_wire}
+use Rattle.world_defs.specs.History.{first_wire}
 use Rattle.fabric_wiring.proofs.tables.wires_of.Given as goal
 
 abbrev pub invariant-loop-k : goal.invariant-loop-k

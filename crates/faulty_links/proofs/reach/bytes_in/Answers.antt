@@ -1,5 +1,5 @@
 use Rattle.std.proofs.Common.{arith}
-use Rattle.link_defs.specs.Links.{packet_in}
+use Rattle.world_defs.specs.Links.{packet_in}
 use Rattle.faulty_links.proofs.HopsBelow.{hops-of}
 use Rattle.faulty_links.proofs.reach.bytes_in.Goals as goal
 

@@ -4,7 +4,7 @@ use Rattle.std.proofs.lemmas.List.{length-append, length-map}
 use Rattle.packet_defs.specs.declared.kind.Kind.TheVariants.{Mapping}
 use Rattle.packet_defs.specs.Packet.{with_crc, head_of}
 use Rattle.packet_defs.specs.RouteByte.{route_byte}
-use Rattle.mapper_bodies.specs.Mapping.{mapping_bytes}
+use Rattle.world_defs.specs.Mapping.{mapping_bytes}
 use Rattle.route_parts.specs.Reading.{ack_body}
 use Rattle.myri_packet.proofs.Built.{front-behind}
 use Rattle.host_items.proofs.answers.ack_packet.Goals as goal

@@ -1,6 +1,6 @@
 use Rattle.std.proofs.Common.{◌+◌, ◌∙◌, ◌++◌, take, length, sym, ap}
-use Rattle.mapper_bodies.specs.Mapping.{mapping_bytes}
-use Rattle.mapper_bodies.specs.Mapping.MappingBody.{HostProbe}
+use Rattle.world_defs.specs.Mapping.{mapping_bytes}
+use Rattle.world_defs.specs.Mapping.MappingBody.{HostProbe}
 use Rattle.world_defs.specs.Node.{way_back}
 use Rattle.host_items.proofs.Ways.{host-laid, way-length}
 use Rattle.host_items.proofs.heads.host_head.Goals as goal

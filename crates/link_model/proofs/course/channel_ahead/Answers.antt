@@ -1,6 +1,6 @@
 use Rattle.std.proofs.Common.{◌<◌, sym, ap, ◌∙◌, subst}
 use Rattle.std.specs.Option.{IfSome}
-use Rattle.cable_history.specs.Crossed.{life_channels}
+use Rattle.world_defs.specs.Crossed.{life_channels}
 use Rattle.link_model.specs.Hop.{passing}
 use Rattle.link_model.proofs.Turning.{byte-enters, none-enters, next-below}
 use Rattle.link_model.proofs.course.channel_ahead.Goals as goal

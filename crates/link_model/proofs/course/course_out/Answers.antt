@@ -1,6 +1,6 @@
 use Rattle.std.proofs.Common.{sym}
 use Rattle.net_defs.specs.declared.vertex.Vertex.TheVariants.{Switch}
-use Rattle.cable_history.proofs.ForLife.{leaving_has_its_end}
+use Rattle.world_defs.proofs.ForLife.{leaving_has_its_end}
 use Rattle.link_model.proofs.course.course_out.Goals as goal
 
 pub course_by_channel-requires : goal.course_by_channel-requires

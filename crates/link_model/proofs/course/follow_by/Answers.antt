@@ -1,7 +1,7 @@
 use Rattle.std.proofs.Common.{◌+◌, sym, ap, ◌∙◌, refl, arith}
 use Rattle.link_model.proofs.Runs.{hops-most, following-none, following-on, hop-fewer}
 use Rattle.link_model.proofs.Turning.{entered-is, turn-there}
-use Rattle.link_defs.specs.Advance.{course}
+use Rattle.world_defs.specs.Advance.{course}
 use Rattle.link_model.specs.Hop.{entered_by}
 use Rattle.link_model.proofs.course.follow_by.Goals as goal
 

@@ -1,5 +1,5 @@
 -- The packet has gone some of its way.
-use Rattle.link_defs.specs.Hops.{hops_left}
+use Rattle.world_defs.specs.Hops.{hops_left}
 use Rattle.link_model.proofs.Runs.{Following}
 use Rattle.link_model.proofs.course.follow_by.Given as goal
 

@@ -1,5 +1,5 @@
 use Rattle.std.proofs.Common.{List, ℕ, ap, ◌∙◌}
-use Rattle.link_defs.specs.Switch.{after_aim}
+use Rattle.world_defs.specs.Switch.{after_aim}
 use Rattle.link_model.proofs.Stepping.{stripped-behind}
 use Rattle.link_model.proofs.course.turn_on.Goals as goal
 

@@ -1,6 +1,6 @@
 use Rattle.std.proofs.Common.{◌≡◌, ap, ◌∙◌, sym, subst}
 use Rattle.packet_defs.specs.Packet.{stripped}
-use Rattle.link_defs.specs.Links.{Held}
+use Rattle.world_defs.specs.Links.{Held}
 use Rattle.link_model.specs.Hop.{IsSentOn}
 use Rattle.link_model.proofs.course.turned.Goals as goal
 

@@ -1,5 +1,5 @@
 use Rattle.std.proofs.Common.{◌≡◌, ◌-◌, suc, sym, ap, ◌∙◌, arith}
-use Rattle.link_defs.specs.Lone.{lone_place}
+use Rattle.world_defs.specs.Lone.{lone_place}
 use Rattle.link_model.specs.Alone.{wire_in, left_at}
 use Rattle.link_model.proofs.Alone.{reset-alone, GoesOn, goes-on, Ends, ends, elsewhere}
 use Rattle.link_model.proofs.walking.+run_out.Goals as goal

@@ -1,10 +1,10 @@
 use Rattle.std.proofs.Common.{sym, ap, ◌∙◌, subst}
 use Rattle.net_defs.specs.Route.{host_port, IsPlaceOf}
-use Rattle.link_defs.specs.Links.{put}
-use Rattle.link_defs.specs.Lone.{lone}
-use Rattle.cable_history.specs.History.{fabric_now}
-use Rattle.cable_history.proofs.ForLife.{leaving_has_its_end}
-use Rattle.link_defs.proofs.LonePackets.{no_channel-place}
+use Rattle.world_defs.specs.Links.{put}
+use Rattle.world_defs.specs.Lone.{lone}
+use Rattle.world_defs.specs.History.{fabric_now}
+use Rattle.world_defs.proofs.ForLife.{leaving_has_its_end}
+use Rattle.world_defs.proofs.LonePackets.{no_channel-place}
 use Rattle.link_model.proofs.Alone.{put-lone, walked, place-there}
 use Rattle.link_model.proofs.walking.walk_alone.Goals as goal
 

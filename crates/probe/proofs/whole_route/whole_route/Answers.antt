@@ -1,5 +1,5 @@
 use Rattle.std.proofs.Common.{List, ℕ, inl, ap, ◌∙◌}
-use Rattle.mapper_bodies.specs.Mapping.{whole, route_front}
+use Rattle.world_defs.specs.Mapping.{whole, route_front}
 use Rattle.probe.specs.Body.{missing}
 use Rattle.probe.proofs.Bodies.{whole_route-apart}
 use Rattle.probe.proofs.whole_route.whole_route.Goals as goal

@@ -1,5 +1,5 @@
 use Rattle.std.proofs.Common.{ap, sym, ◌∙◌}
-use Rattle.mapper_bodies.specs.Mapping.{is_route}
+use Rattle.world_defs.specs.Mapping.{is_route}
 use Rattle.route_install.proofs.Ruled.{walk-route}
 use Rattle.route_install.proofs.cut.copied.Goals as goal
 

@@ -1,6 +1,6 @@
 use Rattle.std.proofs.Common.{◌≡◌, true, map, take}
 use Rattle.std.specs.List.{list_all}
-use Rattle.mapper_bodies.specs.Mapping.{RouteEntry}
+use Rattle.world_defs.specs.Mapping.{RouteEntry}
 use Rattle.net_defs.specs.declared.route.Route.{Route}
 use Rattle.route_install.specs.Collecting.{is_fit}
 use Rattle.route_install.proofs.cut.entries_of.Given as goal

@@ -3,7 +3,7 @@ use Rattle.std.specs.List.{filter}
 use Rattle.std.proofs.lemmas.List.{length-map}
 use Rattle.net_defs.specs.RouteSet.{AreRising}
 use Rattle.net_defs.specs.declared.route.Route.{Route}
-use Rattle.mapper_bodies.specs.Mapping.{RouteEntry, is_part}
+use Rattle.world_defs.specs.Mapping.{RouteEntry, is_part}
 use Rattle.world_defs.specs.Table.{Adoption, entries_from, part_count}
 use Rattle.route_install.proofs.Cutting.{entry, part-none, part-some, route-found}
 use Rattle.route_install.proofs.Ruled.{cut-ruled}

@@ -1,6 +1,6 @@
 use Rattle.std.proofs.Common.{◌≡◌, List, length, nat_lt, get_or, subst}
 use Rattle.std.specs.Prelude.{IfSome, is_some}
-use Rattle.mapper_bodies.specs.Mapping.{RouteEntry}
+use Rattle.world_defs.specs.Mapping.{RouteEntry}
 use Rattle.route_install.proofs.Rising.{looked}
 use Rattle.route_install.proofs.finding.entry_in.Goals as goal
 

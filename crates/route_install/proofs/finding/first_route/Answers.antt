@@ -1,6 +1,6 @@
 use Rattle.std.proofs.Common.{◌≡◌, ◌+◌, List, Some, None, drop, nat_eq, option_map, ap, sym, ◌∙◌}
 use Rattle.std.specs.Prelude.{find}
-use Rattle.mapper_bodies.specs.Mapping.{RouteEntry}
+use Rattle.world_defs.specs.Mapping.{RouteEntry}
 use Rattle.route_install.specs.Collecting.{Numbered, joined_all}
 use Rattle.route_install.proofs.Numbers.{found-at, first-some, first-none}
 use Rattle.route_install.proofs.finding.first_route.Goals as goal

@@ -1,6 +1,6 @@
 use Rattle.std.proofs.Common.{◌++◌, List, ℕ, take, ap, sym, ◌∙◌, append_assoc}
 use Rattle.std.specs.Int.{w16, to_be_bytes}
-use Rattle.mapper_bodies.specs.Mapping.{entry_bytes, route_bytes}
+use Rattle.world_defs.specs.Mapping.{entry_bytes, route_bytes}
 use Rattle.route_parts.proofs.Entries.{bytes-more}
 use Rattle.route_parts.proofs.part.push_entries.Goals as goal
 

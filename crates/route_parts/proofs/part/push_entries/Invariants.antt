@@ -1,5 +1,5 @@
 use Rattle.std.proofs.Common.{◌≡◌, ◌++◌, take}
-use Rattle.mapper_bodies.specs.Mapping.{entry_bytes}
+use Rattle.world_defs.specs.Mapping.{entry_bytes}
 use Rattle.route_parts.proofs.part.push_entries.Given as goal
 
 abbrev pub invariant-loop-entry : goal.invariant-loop-entry

@@ -1,5 +1,5 @@
 use Rattle.std.proofs.Common.{◌≡◌, ◌++◌, ◌∷◌, [], suc, ◌-◌, List, option_map, ap, sym, ◌∙◌, arith, if◌then◌else◌}
-use Rattle.mapper_bodies.specs.Mapping.{RouteEntry, entries_front, whole}
+use Rattle.world_defs.specs.Mapping.{RouteEntry, entries_front, whole}
 use Rattle.route_parts.proofs.Entries.{entries-read}
 use Rattle.route_parts.proofs.reading.read_entries.Goals as goal
 

@@ -1,5 +1,5 @@
 use Rattle.std.proofs.Common.{◌≡◌, ◌++◌, option_map}
-use Rattle.mapper_bodies.specs.Mapping.{entries_front, whole}
+use Rattle.world_defs.specs.Mapping.{entries_front, whole}
 use Rattle.route_parts.proofs.reading.read_entries.Given as goal
 
 abbrev pub invariant-loop-left : goal.invariant-loop-left

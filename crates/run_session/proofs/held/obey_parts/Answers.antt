@@ -1,6 +1,6 @@
 use Rattle.std.proofs.Common.{◌≡◌, ◌∙◌, Option, OnOk, OnErr, sym, ap, subst}
 use Rattle.std.specs.Prelude.{IfErr}
-use Rattle.link_defs.specs.Links.{is_idle}
+use Rattle.world_defs.specs.Links.{is_idle}
 use Rattle.world_defs.specs.World.{WorldState}
 use Rattle.run_defs.specs.declared.command.Command.{Command}
 use Rattle.run_defs.specs.Session.{SessionState, LastRoutes}

@@ -1,7 +1,7 @@
 use Rattle.std.proofs.Common.{◌≡◌, ◌∙◌, sym, ap, subst, arith}
 use Rattle.std.specs.Prelude.{Some}
 use Rattle.net_defs.specs.Network.{Network}
-use Rattle.cable_history.specs.History.{fabric_at}
+use Rattle.world_defs.specs.History.{fabric_at}
 use Rattle.world_defs.specs.World.{fabric_of}
 use Rattle.map_making.specs.Lines.{map_lines}
 use Rattle.run_session.proofs.Answered.{on-ok-both}

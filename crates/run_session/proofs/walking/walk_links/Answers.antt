@@ -1,5 +1,5 @@
 use Rattle.std.proofs.Common.{◌∙◌, ap}
-use Rattle.link_defs.specs.Links.{empty_links}
+use Rattle.world_defs.specs.Links.{empty_links}
 use Rattle.run_session.proofs.Going.{links_now}
 use Rattle.run_session.proofs.walking.walk_links.Goals as goal
 

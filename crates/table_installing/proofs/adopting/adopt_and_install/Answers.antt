@@ -1,6 +1,6 @@
 use Rattle.std.proofs.Common.{◌∙◌}
 use Rattle.std.specs.Prelude.{Ok, Err}
-use Rattle.cable_history.specs.History.{fabric_at}
+use Rattle.world_defs.specs.History.{fabric_at}
 use Rattle.world_defs.specs.World.{WorldState}
 use Rattle.adopted_routes.specs.declared.routes.AdoptRefusal.TheVariants.{NoMemory}
 use Rattle.table_installing.proofs.Adoptions.{just-installable, unrefused-copy, adopted-copy, refused-copy}

@@ -1,6 +1,6 @@
 use Rattle.std.proofs.Common.{◌≡◌, ap, sym, ◌∙◌, subst, refl, ℕ, None, arith}
 use Rattle.std.specs.Prelude.{Some, IfSome, option_map}
-use Rattle.cable_history.specs.Crossed.{life_channels}
+use Rattle.world_defs.specs.Crossed.{life_channels}
 use Rattle.world_defs.specs.Row.{IsPartWay}
 use Rattle.world_defs.specs.Table.{Adoption}
 use Rattle.world_defs.specs.World.{WorldState, host_count}

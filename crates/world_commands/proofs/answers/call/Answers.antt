@@ -2,7 +2,7 @@ use Rattle.std.proofs.Common.{◌≡◌, ◌∙◌, ℕ, true, List, length, ref
 use Rattle.std.proofs.lemmas.Result.{on_ok_weaker}
 use Rattle.net_defs.specs.declared.vertex.Vertex.TheVariants.{Host}
 use Rattle.net_defs.specs.Network.{Network, has_vertex}
-use Rattle.cable_history.proofs.Later.{later-kept}
+use Rattle.world_defs.proofs.CablesLater.{later-kept}
 use Rattle.world_defs.specs.World.{WorldState}
 use Rattle.world_defs.specs.declared.effect.Effect.TheVariants.{Said as SaidSo}
 use Rattle.client_host.specs.Held.{IsFromHosts}

@@ -1,4 +1,4 @@
-use Rattle.cable_history.specs.Later.{IsLater}
+use Rattle.world_defs.specs.Later.{IsLater}
 use Rattle.world_commands.proofs.doing.do_port.Goals as goal
 
 -- no event

@@ -1,5 +1,5 @@
 use Rattle.std.proofs.Common.{sym}
-use Rattle.cable_history.specs.Later.{IsLater}
+use Rattle.world_defs.specs.Later.{IsLater}
 use Rattle.run_defs.specs.declared.command.Command.TheVariants.{Step}
 use Rattle.world_commands.specs.Cut.{IsLeft, IsEventLeft}
 use Rattle.world_commands.proofs.Answered.{if-err}

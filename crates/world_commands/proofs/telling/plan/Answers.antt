@@ -1,5 +1,5 @@
 use Rattle.std.proofs.Common.{◌∙◌, ap, sym, subst}
-use Rattle.cable_history.specs.Later.{IsLater}
+use Rattle.world_defs.specs.Later.{IsLater}
 use Rattle.world_defs.specs.World.{WorldState, planned}
 use Rattle.run_defs.specs.declared.command.Command.TheVariants.{Plan}
 use Rattle.world_commands.specs.Cut.{IsLeft}

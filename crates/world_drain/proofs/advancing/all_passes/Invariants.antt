@@ -1,6 +1,6 @@
 -- Passes that each changed something led here, and each channel that isn't awake by the note sleeps.
 use Rattle.std.specs.Prelude.{IfSome}
-use Rattle.link_defs.specs.Hops.{total_hops}
+use Rattle.world_defs.specs.Hops.{total_hops}
 use Rattle.world_drain.specs.Awake.{AreAwake}
 use Rattle.world_drain.proofs.Running.{Running}
 use Rattle.world_drain.proofs.advancing.all_passes.Given as goal

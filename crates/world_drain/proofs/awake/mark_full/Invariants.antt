@@ -1,6 +1,6 @@
 -- The full channels below here are marked.
 use Rattle.std.proofs.Common.{◌≡◌, ◌<◌, ◌≤◌, ◌-◌, ℕ, length, None}
-use Rattle.link_defs.specs.Links.{packet_in}
+use Rattle.world_defs.specs.Links.{packet_in}
 use Rattle.number_marks.specs.Marks.{mark_at}
 use Rattle.world_drain.proofs.awake.mark_full.Given as goal
 

@@ -1,5 +1,5 @@
 use Rattle.std.proofs.Common.{ap}
-use Rattle.cable_history.specs.Crossed.{life_channels}
+use Rattle.world_defs.specs.Crossed.{life_channels}
 use Rattle.world_defs.specs.Logs as log
 use Rattle.log_laws.proofs.Drains.{clear-within, clear-behind}
 use Rattle.fab_world.specs.Held.{IsLater}

@@ -1,5 +1,5 @@
 use Rattle.std.proofs.Common.{◌≡◌, None, arith}
-use Rattle.link_defs.specs.Fault.{next_limbo}
+use Rattle.world_defs.specs.Fault.{next_limbo}
 use Rattle.world_drain.proofs.Quiet.{quiet-is}
 use Rattle.world_drain.proofs.passes.is_quiet.Goals as goal
 

@@ -1,6 +1,6 @@
 use Rattle.world_defs.proofs.Kept.{step-later, step-pulled, step-cables}
 use Rattle.world_laws.proofs.Shapes.{after_all-kept}
-use Rattle.cable_history.proofs.Later.{later-kept, later-past}
+use Rattle.world_defs.proofs.CablesLater.{later-kept, later-past}
 use Rattle.world_laws.proofs.shape.kept_cables.Goals as goal
 
 pub returns-clause-later : goal.returns-clause-later

@@ -1,5 +1,5 @@
 use Rattle.std.proofs.Common.{◌≡◌, true, not, ◌&&◌, is_some, ap, sym, ◌∙◌}
-use Rattle.cable_history.specs.Crossed.{is_new}
+use Rattle.world_defs.specs.Crossed.{is_new}
 use Rattle.world_defs.specs.Node.{to_send, has_staged}
 use Rattle.world_defs.specs.World.{node_at}
 use Rattle.fab_world.proofs.First.{may-first}

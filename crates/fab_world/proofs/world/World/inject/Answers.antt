@@ -1,5 +1,5 @@
 use Rattle.std.proofs.Common.{length, refl, ap, subst, ◌∙◌}
-use Rattle.cable_history.specs.Later.{OnlyPulled}
+use Rattle.world_defs.specs.Later.{OnlyPulled}
 use Rattle.world_defs.specs.declared.event.Event.TheVariants.{Inject}
 use Rattle.world_defs.specs.World.{WorldState, host_count}
 use Rattle.fab_world.proofs.Stepped.{IsStepped, stepped, only-pulled, same-channels}

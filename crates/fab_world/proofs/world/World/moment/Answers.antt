@@ -1,5 +1,5 @@
 use Rattle.std.proofs.Common.{subst}
-use Rattle.cable_history.specs.History.{fabric_at}
+use Rattle.world_defs.specs.History.{fabric_at}
 use Rattle.world_defs.specs.Sound.{IsSound}
 use Rattle.world_defs.specs.Traffic.{IsHonestTraffic}
 use Rattle.message_laws.specs.Windows.{HasWindows}

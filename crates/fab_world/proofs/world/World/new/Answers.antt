@@ -1,6 +1,6 @@
 use Rattle.std.proofs.Common.{ap, sym, subst, ◌∙◌}
-use Rattle.cable_history.specs.History.{fabric_at}
-use Rattle.cable_history.proofs.First.{first_stands}
+use Rattle.world_defs.specs.History.{fabric_at}
+use Rattle.world_defs.proofs.First.{first_stands}
 use Rattle.world_defs.specs.World.{WorldState, fabric_of, new_world}
 use Rattle.fab_world.specs.Held.{IsMoment}
 use Rattle.world_defs.specs.Acts.{IsReached}

@@ -1,5 +1,5 @@
 use Rattle.std.proofs.Common.{refl, ap, subst, ◌∙◌}
-use Rattle.cable_history.specs.Later.{OnlyPulled}
+use Rattle.world_defs.specs.Later.{OnlyPulled}
 use Rattle.world_defs.specs.declared.event.Event.TheVariants.{Ask, Inject}
 use Rattle.world_defs.specs.World.{WorldState, host_count}
 use Rattle.fab_world.proofs.Stepped.{IsStepped, stepped-twice, only-pulled-twice}

@@ -1,6 +1,6 @@
 use Rattle.std.proofs.Common.{◌≡◌, ◌≤◌, false, ap, sym, subst, ◌∙◌, length}
-use Rattle.cable_history.specs.History.{fabric_at}
-use Rattle.cable_history.specs.Later.{IsLater}
+use Rattle.world_defs.specs.History.{fabric_at}
+use Rattle.world_defs.specs.Later.{IsLater}
 use Rattle.world_defs.specs.World.{WorldState, host_count}
 use Rattle.world_defs.specs.Step.{step}
 use Rattle.fab_world.specs.Held.{IsOfHosts, IsPolledOfHosts, is_refusal}

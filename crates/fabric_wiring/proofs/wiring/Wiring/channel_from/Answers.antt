@@ -1,9 +1,9 @@
 use Rattle.std.proofs.Common.{◌≡◌, ◌<◌, ◌∙◌, ap, sym, subst, get_or, length, arith, None}
 use Rattle.std.specs.Option.{IfSome}
 use Rattle.net_defs.specs.Network.{IsFabric}
-use Rattle.cable_history.specs.History.{fabric_now}
-use Rattle.cable_history.specs.Crossed.{leaving, life_channels}
-use Rattle.cable_history.proofs.Now.{now_is_fabric}
+use Rattle.world_defs.specs.History.{fabric_now}
+use Rattle.world_defs.specs.Crossed.{leaving, life_channels}
+use Rattle.world_defs.proofs.Now.{now_is_fabric}
 use Rattle.fabric_wiring.specs.Tables.{history_of}
 use Rattle.fabric_wiring.proofs.Wirings.{impossible-none, unplaced, placed, leaving-below}
 use Rattle.fabric_wiring.proofs.wiring.Wiring.channel_from.Goals as goal

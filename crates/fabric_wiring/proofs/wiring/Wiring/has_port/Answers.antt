@@ -1,6 +1,6 @@
 use Rattle.std.proofs.Common.{get_or, nat_lt, sym, ap, ◌∙◌}
 use Rattle.net_defs.specs.Network.{has_port}
-use Rattle.cable_history.specs.History.{CableHistory, fabric_now}
+use Rattle.world_defs.specs.History.{CableHistory, fabric_now}
 use Rattle.fabric_wiring.specs.Tables.{history_of}
 use Rattle.fabric_wiring.proofs.Wirings.{switch-port-there}
 use Rattle.fabric_wiring.proofs.wiring.Wiring.has_port.Goals as goal

@@ -2,9 +2,9 @@ use Rattle.std.proofs.Common.{◌≡◌, ◌∙◌, true, None, get_or, ap, leng
 use Rattle.net_defs.specs.declared.vertex.Vertex.TheVariants.{Switch}
 use Rattle.net_defs.specs.declared.vertex.End.{End}
 use Rattle.net_defs.specs.Network.{has_port}
-use Rattle.cable_history.specs.History.{CableHistory, fabric_now}
-use Rattle.cable_history.specs.Crossed.{leaving}
-use Rattle.cable_history.proofs.Now.{now_is_fabric}
+use Rattle.world_defs.specs.History.{CableHistory, fabric_now}
+use Rattle.world_defs.specs.Crossed.{leaving}
+use Rattle.world_defs.proofs.Now.{now_is_fabric}
 use Rattle.port_graph.specs.Table.{is_possible}
 use Rattle.port_graph.proofs.Possible.{has_port-possible}
 use Rattle.port_graph.proofs.Tables.{place_of_end-lt}

@@ -1,6 +1,6 @@
 use Rattle.std.proofs.Common.{◌≡◌, ◌∙◌, ap, sym, true, false, not, ◌&&◌, ◌||◌, Bool, nat_lt, length, is_some, vec_len}
 use Rattle.net_defs.specs.Network.{same_end}
-use Rattle.cable_history.specs.Crossed.{leaving}
+use Rattle.world_defs.specs.Crossed.{leaving}
 use Rattle.fabric_wiring.proofs.Changing.{may-plug-is}
 use Rattle.fabric_wiring.proofs.wiring.Wiring.may_join.Goals as goal
 

@@ -1,6 +1,6 @@
 use Rattle.std.proofs.Common.{◌+◌, ◌∙◌, None, get_or, refl, ap, length, sym, arith}
-use Rattle.cable_history.specs.History.{CableHistory}
-use Rattle.cable_history.proofs.Now.{now_is_fabric}
+use Rattle.world_defs.specs.History.{CableHistory}
+use Rattle.world_defs.proofs.Now.{now_is_fabric}
 use Rattle.fabric_wiring.specs.declared.wiring.Entry.{Entry}
 use Rattle.fabric_wiring.specs.Hops.{next_channel}
 use Rattle.fabric_wiring.specs.Tables.{history_of}

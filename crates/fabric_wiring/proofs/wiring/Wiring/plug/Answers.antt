@@ -1,7 +1,7 @@
 use Rattle.std.proofs.Common.{rules, ◌≡◌, ◌≤◌, ◌+◌, ◌*◌, ◌∙◌, ◌∷◌, ◌++◌, [], ℕ, List, Option, Some, None, sym, ap, subst, length, set, arith, vec_len}
-use Rattle.cable_history.specs.declared.wire.Wire.{Wire}
-use Rattle.cable_history.specs.History.{fabric_now, may_plug}
-use Rattle.cable_history.proofs.Now.{now_is_fabric}
+use Rattle.world_defs.specs.declared.wire.Wire.{Wire}
+use Rattle.world_defs.specs.History.{fabric_now, may_plug}
+use Rattle.world_defs.proofs.Now.{now_is_fabric}
 use Rattle.port_graph.specs.Table.{place_of_end}
 use Rattle.port_graph.proofs.Possible.{has_port-possible}
 use Rattle.fabric_wiring.specs.declared.wiring.Entry.{Entry}

@@ -1,10 +1,10 @@
 use Rattle.std.proofs.Common.{rules, ◌≡◌, ◌≤◌, ◌+◌, ◌/◌, ◌∙◌, ℕ, List, Option, Some, None, sym, ap, subst, length, set, arith}
 use Rattle.std.specs.List.{slice_get, slice_set}
-use Rattle.cable_history.specs.declared.wire.Wire.{Wire}
-use Rattle.cable_history.specs.History.{fabric_now}
-use Rattle.cable_history.specs.Crossed.{leaving}
-use Rattle.cable_history.proofs.Now.{now_is_fabric}
-use Rattle.cable_history.proofs.There.{ends_are_there}
+use Rattle.world_defs.specs.declared.wire.Wire.{Wire}
+use Rattle.world_defs.specs.History.{fabric_now}
+use Rattle.world_defs.specs.Crossed.{leaving}
+use Rattle.world_defs.proofs.Now.{now_is_fabric}
+use Rattle.world_defs.proofs.There.{ends_are_there}
 use Rattle.port_graph.specs.Table.{place_of_end}
 use Rattle.port_graph.proofs.Possible.{has_port-possible}
 use Rattle.fabric_wiring.specs.Hops.{with_hop}

@@ -1,6 +1,6 @@
 use Rattle.std.proofs.Common.{◌≡◌, ap, ◌∙◌, sym, refl, None}
-use Rattle.link_defs.specs.Advance.{advance}
-use Rattle.link_defs.specs.declared.moved.Moved.TheVariants.{To, Dropped, Blocked, Empty}
+use Rattle.world_defs.specs.Advance.{advance}
+use Rattle.world_defs.specs.declared.moved.Moved.TheVariants.{To, Dropped, Blocked, Empty}
 use Rattle.world_defs.specs.declared.effect.Effect.TheVariants.{Dropped as EffectDropped}
 use Rattle.faulty_links.specs.Held.{LinksAndPlan, part_of, with_part, reaching}
 use Rattle.faulty_links.proofs.Arrivals.{never_there}

@@ -1,6 +1,6 @@
 use Rattle.std.proofs.Common.{ap, ◌∙◌, sym, ◌≡◌, ◌+◌, nat_eq, None}
 use Rattle.std.specs.Map.{lookup}
-use Rattle.link_defs.specs.Links.{put}
+use Rattle.world_defs.specs.Links.{put}
 use Rattle.world_defs.specs.World.{without_fault}
 use Rattle.world_defs.specs.Step.{fault_on}
 use Rattle.faulty_links.specs.Held.{LinksAndPlan, part_of, behind_fault}

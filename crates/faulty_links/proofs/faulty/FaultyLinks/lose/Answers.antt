@@ -1,5 +1,5 @@
 use Rattle.std.proofs.Common.{ap, ◌∙◌, sym, ◌≡◌}
-use Rattle.link_defs.specs.Fault.{lose}
+use Rattle.world_defs.specs.Fault.{lose}
 use Rattle.world_defs.specs.declared.effect.Effect.TheVariants.{Lost}
 use Rattle.world_defs.specs.Step.{lost}
 use Rattle.faulty_links.specs.Held.{LinksAndPlan, part_of}

@@ -1,5 +1,5 @@
 use Rattle.std.proofs.Common.{ap, ◌∙◌, sym, ◌≡◌}
-use Rattle.link_defs.specs.Fault.{pull}
+use Rattle.world_defs.specs.Fault.{pull}
 use Rattle.world_defs.specs.declared.effect.Effect.TheVariants.{Said}
 use Rattle.world_defs.specs.declared.effect.Said.TheVariants.{Done}
 use Rattle.world_defs.specs.Step.{pulled}

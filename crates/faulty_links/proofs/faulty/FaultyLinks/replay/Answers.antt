@@ -1,5 +1,5 @@
 use Rattle.std.proofs.Common.{ap, ◌∙◌, sym, ◌≡◌, ⊎_elim}
-use Rattle.link_defs.specs.Fault.{replay}
+use Rattle.world_defs.specs.Fault.{replay}
 use Rattle.world_defs.specs.Step.{replayed}
 use Rattle.faulty_links.specs.Held.{LinksAndPlan, part_of}
 use Rattle.faulty_links.proofs.Parts.{told_replay, so, replayed_part}

@@ -1,5 +1,5 @@
 use Rattle.std.proofs.Common.{ap, ◌∙◌, sym, ◌≡◌}
-use Rattle.link_defs.specs.Fault.{reset}
+use Rattle.world_defs.specs.Fault.{reset}
 use Rattle.world_defs.specs.declared.effect.Effect.TheVariants.{Reset}
 use Rattle.world_defs.specs.Step.{was_reset}
 use Rattle.faulty_links.specs.Held.{LinksAndPlan, part_of}

@@ -1,5 +1,5 @@
 use Rattle.std.proofs.Common.{ap, ◌∙◌}
-use Rattle.link_defs.specs.Fault.{lose}
+use Rattle.world_defs.specs.Fault.{lose}
 use Rattle.faulty_links.proofs.Parts.{put_and_lost}
 use Rattle.faulty_links.proofs.faulty.injection.put_under.Goals as goal
 

@@ -1,6 +1,6 @@
 use Rattle.std.proofs.Common.{rules, ◌/◌, not, nat_eq, ap, ◌∙◌}
 use Rattle.std.proofs.lemmas.Map.Made.{filter_same_pairs}
-use Rattle.link_defs.specs.Fault.{without_cable}
+use Rattle.world_defs.specs.Fault.{without_cable}
 use Rattle.link_model.proofs.limbo.Limbo.leave_cable.Goals as goal
 
 pub returns : goal.returns

@@ -1,6 +1,6 @@
 use Rattle.std.proofs.Common.{sym, subst, ap, ◌∙◌, ◌++◌, ◌∷◌, [], ◌<◌}
 use Rattle.std.specs.List.{AllByRecursion}
-use Rattle.link_defs.proofs.InOrder.{insert-last}
+use Rattle.world_defs.proofs.InOrder.{insert-last}
 use Rattle.link_model.proofs.limbo.Limbo.push.Goals as goal
 
 pub returns-in-Ok-clause-ok : goal.returns-in-Ok-clause-ok

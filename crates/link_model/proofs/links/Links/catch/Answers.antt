@@ -1,6 +1,6 @@
 use Rattle.std.proofs.Common.{sym, subst, ap, ◌∙◌, ◌<◌, ◌+◌, ◌≡◌, false, length}
-use Rattle.link_defs.specs.Fault.{is_used_up}
-use Rattle.link_defs.specs.Shape.{IsLinks}
+use Rattle.world_defs.specs.Fault.{is_used_up}
+use Rattle.world_defs.specs.Shape.{IsLinks}
 use Rattle.link_model.specs.State.{state}
 use Rattle.link_model.proofs.Limbos.{caught-links}
 use Rattle.link_model.proofs.links.Links.catch.Goals as goal

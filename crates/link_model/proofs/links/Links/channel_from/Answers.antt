@@ -1,7 +1,7 @@
 use Rattle.std.proofs.Common.{ap, ◌∙◌, sym, subst, ◌<◌, length}
 use Rattle.std.specs.Option.{IfSome}
-use Rattle.cable_history.specs.Crossed.{leaving}
-use Rattle.link_defs.specs.Shape.{IsLinks}
+use Rattle.world_defs.specs.Crossed.{leaving}
+use Rattle.world_defs.specs.Shape.{IsLinks}
 use Rattle.link_model.proofs.Stepping.{from-below}
 use Rattle.link_model.proofs.links.Links.channel_from.Goals as goal
 

@@ -1,9 +1,9 @@
 use Rattle.std.proofs.Common.{◌≡◌, ap, ◌∙◌, sym, subst, length, get_or, arith, Option, Some, None, option_map}
 use Rattle.std.proofs.Math.ListN.{length-set}
-use Rattle.link_defs.specs.declared.moved.Course.TheVariants.{Enters}
-use Rattle.link_defs.specs.Advance.{course}
-use Rattle.link_defs.specs.Links.{Held, LinkState, packet_in}
-use Rattle.link_defs.specs.Shape.{IsLinks}
+use Rattle.world_defs.specs.declared.moved.Course.TheVariants.{Enters}
+use Rattle.world_defs.specs.Advance.{course}
+use Rattle.world_defs.specs.Links.{Held, LinkState, packet_in}
+use Rattle.world_defs.specs.Shape.{IsLinks}
 use Rattle.link_model.specs.State.{state}
 use Rattle.link_model.proofs.Stepping.{entering, goes_on, written-links}
 use Rattle.link_model.proofs.links.Links.enter.Goals as goal

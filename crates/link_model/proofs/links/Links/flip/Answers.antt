@@ -1,5 +1,5 @@
 use Rattle.std.proofs.Common.{ap, ◌∙◌, sym, set, get_or, Some, None}
-use Rattle.link_defs.specs.Fault.{flip}
+use Rattle.world_defs.specs.Fault.{flip}
 use Rattle.link_model.specs.State.{state}
 use Rattle.link_model.proofs.Counting.{set-set}
 use Rattle.link_model.proofs.Stepping.{flip-back}

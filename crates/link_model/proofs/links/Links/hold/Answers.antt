@@ -1,5 +1,5 @@
 use Rattle.std.proofs.Common.{ap, ◌∙◌, sym, set, get_or, Some, None}
-use Rattle.link_defs.specs.Links.{with_packet}
+use Rattle.world_defs.specs.Links.{with_packet}
 use Rattle.link_model.specs.State.{state}
 use Rattle.link_model.proofs.Counting.{set-back}
 use Rattle.link_model.proofs.links.Links.hold.Goals as goal

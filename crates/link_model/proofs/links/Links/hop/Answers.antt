@@ -1,5 +1,5 @@
 use Rattle.std.proofs.Common.{refl, sym}
-use Rattle.link_defs.specs.Links.{packet_in}
+use Rattle.world_defs.specs.Links.{packet_in}
 use Rattle.link_model.proofs.Turning.{goes-into, goes-nowhere}
 use Rattle.link_model.proofs.links.Links.hop.Goals as goal
 

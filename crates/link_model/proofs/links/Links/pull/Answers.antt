@@ -1,10 +1,10 @@
 use Rattle.std.proofs.Common.{◌≡◌, ◌+◌, ◌*◌, ap, ◌∙◌, sym, subst, length, set, Option, None, arith}
 use Rattle.std.proofs.Math.ListN.{length-set}
-use Rattle.cable_history.specs.Crossed.{pulled_at}
-use Rattle.link_defs.specs.Links.{Held, LinkState}
-use Rattle.link_defs.specs.Shape.{IsLinks}
-use Rattle.link_defs.specs.Step.{Pull}
-use Rattle.link_defs.proofs.Shapes.{stepped-links}
+use Rattle.world_defs.specs.Crossed.{pulled_at}
+use Rattle.world_defs.specs.Links.{Held, LinkState}
+use Rattle.world_defs.specs.Shape.{IsLinks}
+use Rattle.world_defs.specs.LinkStep.{Pull}
+use Rattle.world_defs.proofs.Shapes.{stepped-links}
 use Rattle.link_model.specs.State.{state}
 use Rattle.link_model.proofs.Cables.{cable-there, pull-some, without}
 use Rattle.link_model.proofs.links.Links.pull.Goals as goal

@@ -1,7 +1,7 @@
 use Rattle.std.proofs.Common.{ap, ◌∙◌, sym, subst, ◌<◌, ◌≡◌, false, length, set, get_or, Some, None, is_some, nat_eq}
 use Rattle.std.specs.Map.{lookup}
-use Rattle.link_defs.specs.Links.{packet_in}
-use Rattle.link_defs.specs.Shape.{IsLinks}
+use Rattle.world_defs.specs.Links.{packet_in}
+use Rattle.world_defs.specs.Shape.{IsLinks}
 use Rattle.link_model.specs.State.{state}
 use Rattle.link_model.proofs.Limbos.{channel-below, channel-found, released-links}
 use Rattle.link_model.proofs.links.Links.replay.Goals as goal

@@ -1,6 +1,6 @@
 use Rattle.std.proofs.Common.{◌≡◌, ℕ, List, ap, ◌∙◌, sym, subst, length, set, get_or, Option, Some, None, arith}
 use Rattle.std.proofs.Math.ListN.{length-set}
-use Rattle.link_defs.specs.Links.{Held, LinkState, packet_in}
+use Rattle.world_defs.specs.Links.{Held, LinkState, packet_in}
 use Rattle.link_model.specs.FullSlots.{IsLone}
 use Rattle.link_model.specs.State.{state}
 use Rattle.link_model.specs.Hop.{IsSentAlong, IsRun}

@@ -1,5 +1,5 @@
 use Rattle.std.proofs.Common.{◌≡◌, ap, sym, ◌∙◌, true, false}
-use Rattle.mapper_bodies.specs.Mapping.{RoutePart}
+use Rattle.world_defs.specs.Mapping.{RoutePart}
 use Rattle.world_defs.specs.Table.{applied, joined, is_epoch, is_old, active_epoch}
 use Rattle.route_install.proofs.Applying.{applied-old, applied-active, applied-next}
 use Rattle.route_install.proofs.table.Table.apply.Goals as goal

@@ -1,6 +1,6 @@
 use Rattle.std.proofs.Common.{List, Option, option_map, nat_eq, ℕ, sym, ap, ◌∙◌}
 use Rattle.std.specs.Prelude.{find, option_and_then}
-use Rattle.mapper_bodies.specs.Mapping.{RouteEntry}
+use Rattle.world_defs.specs.Mapping.{RouteEntry}
 use Rattle.world_defs.specs.Table.{ActiveTable, table_route}
 use Rattle.route_install.specs.Collecting.{HostTable, Numbered, joined_all, active_of}
 use Rattle.route_install.proofs.table.Table.route.Goals as goal

@@ -1,7 +1,7 @@
 use Rattle.std.proofs.Common.{◌≡◌, ◌^◌, true, refl, ap, ◌∙◌, rules, arith}
 use Rattle.std.specs.Prelude.{nat_lt}
 use Rattle.std.proofs.lemmas.Bool.Decides.{nat_tests}
-use Rattle.mapper_bodies.specs.Mapping.{mapping_bytes, decode_mapping}
+use Rattle.world_defs.specs.Mapping.{mapping_bytes, decode_mapping}
 use Rattle.route_parts.specs.Reading.{ack_body}
 use Rattle.route_parts.proofs.ack.PartAck.encode.Goals as goal
 

@@ -1,6 +1,6 @@
 use Rattle.std.proofs.Common.{◌≡◌, Option, Some, ap, sym, ◌∙◌, subst}
 use Rattle.net_defs.specs.Refusal.{Refuses}
-use Rattle.mapper_bodies.specs.Mapping.{RoutePart, byte_front}
+use Rattle.world_defs.specs.Mapping.{RoutePart, byte_front}
 use Rattle.route_parts.specs.declared.fault.BodyFault.TheVariants.{NoMemory}
 use Rattle.route_parts.specs.Reading.{missing}
 use Rattle.route_parts.proofs.Parts.{part-numbered, read-said}

@@ -1,6 +1,6 @@
 use Rattle.std.proofs.Common.{◌≡◌, ap, ◌∙◌, rules}
-use Rattle.mapper_bodies.specs.Mapping.{mapping_bytes, decode_mapping}
-use Rattle.mapper_bodies.specs.Mapping.MappingBody.{Part}
+use Rattle.world_defs.specs.Mapping.{mapping_bytes, decode_mapping}
+use Rattle.world_defs.specs.Mapping.MappingBody.{Part}
 use Rattle.route_parts.proofs.part.RoutePart.encode.Goals as goal
 
 pub returns-clause-read : goal.returns-clause-read

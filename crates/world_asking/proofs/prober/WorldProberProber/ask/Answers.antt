@@ -1,7 +1,7 @@
 use Rattle.std.proofs.Common.{ap, sym, subst, refl, ◌∙◌, arith}
 use Rattle.net_defs.specs.Route.{answer}
-use Rattle.link_defs.specs.Links.{is_idle}
-use Rattle.cable_history.specs.History.{fabric_at}
+use Rattle.world_defs.specs.Links.{is_idle}
+use Rattle.world_defs.specs.History.{fabric_at}
 use Rattle.world_defs.specs.World.{WorldState}
 use Rattle.probe.specs.Drowning.{IsTrueOrDrowned}
 use Rattle.ask_laws.specs.Premises.{CanAsk}

@@ -1,9 +1,0 @@
-pub mod HopsLeft
-pub mod Idling
-pub mod InOrder
-pub mod KindsKept
-pub mod Later
-pub mod LonePackets
-pub mod Marks
-pub mod Shapes
-pub mod Slots

@@ -1,8 +1,0 @@
-use Rattle.link_defs.proofs.Idling.{stuck-still, still-stuck}
-use Rattle.link_defs.proofs.laws.stuck_links.Goals as goal
-
-pub returns-clause-still : goal.returns-clause-still
-returns-clause-still c = stuck-still
-
-pub returns-clause-stuck : goal.returns-clause-stuck
-returns-clause-stuck c = still-stuck

@@ -1,8 +1,0 @@
-use Rattle.mapper_bodies.proofs.Mappings.{mapping-read, mapping-written}
-use Rattle.mapper_bodies.proofs.laws.mapping_is_read.Goals as goal
-
-pub returns-clause-read : goal.returns-clause-read
-returns-clause-read c = mapping-read
-
-pub returns-clause-written : goal.returns-clause-written
-returns-clause-written c = mapping-written

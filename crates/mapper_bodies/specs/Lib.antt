@@ -1,3 +1,0 @@
-pub mod Mapping
-pub mod Examples
-pub mod Laws
