@@ -13,9 +13,9 @@ ghost use Rattle.std.specs.Prelude.{◌≡◌, ◌<◌, ◌≤◌, ℕ, Some, Is
 ghost use Rattle.packet_defs.specs.Packet.{difference, front_turn};
 ghost use Rattle.world_defs.specs.Switch.{aim, aim_of, after_aim};
 
-pub use world_defs::Turned;
 use myri_packet::Packet;
 use net_defs::leaving_port;
+pub use world_defs::Turned;
 
 /// Where a switch of P ports sends a packet that entered by a port: by the turn in the first byte of its head. P is 4,
 /// 8 or 16.

@@ -9,9 +9,9 @@ ghost use Rattle.world_defs.specs.Crossed.{leaving, pulled_at};
 
 use crate::tables::{entry_by, put_port, wire_at};
 use crate::wiring::Wiring;
-use world_defs::Wire;
 use net_defs::{Cable, End};
 use std::alloc::AllocError;
+use world_defs::Wire;
 
 // The most cables that are ever named.
 const CABLE_LIMIT: usize = 4096;

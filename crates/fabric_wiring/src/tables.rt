@@ -12,10 +12,10 @@ ghost use Rattle.fabric_wiring.specs.Hops.{with_hop};
 
 use crate::hops::{ROW, hops_from, put_hop};
 use crate::wiring::Entry;
-use world_defs::Wire;
 use net_defs::{Cable, End, Vertex};
 use port_graph::Fabric;
 use std::alloc::{AllocError, Global};
+use world_defs::Wire;
 
 // Where the switches' ports begin in the table of channels that leave by a port.
 pub(crate) const HOST_PLACES: usize = 128;

@@ -12,12 +12,12 @@ use crate::tables::{
     channel_at, entries_of, entry_at, out_table, port_count, ports_of, possible_place,
     switch_place, wire_at, wires_of,
 };
-use world_defs::Wire;
 use net_defs::{End, Vertex};
 use port_graph::Fabric;
 use std::alloc::{AllocError, Global};
 use std::marker::Model;
 use std::snapshot::Snapshot;
+use world_defs::Wire;
 
 /// The end that a channel enters, with the number of its vertex's ports.
 #[derive(Clone, Copy, Debug)]

@@ -17,10 +17,10 @@ use crate::Slot;
 use crate::hop::Run;
 use crossbar::{aim_by, turn};
 use fabric_wiring::Wiring;
-use world_defs::{Course, Turned, Why};
 use myri_packet::Packet;
 use net_defs::Vertex;
 use packet_defs::is_route_byte;
+use world_defs::{Course, Turned, Why};
 
 // The type number of packets of mapping.
 const MAPPING: u16 = 5;

@@ -29,7 +29,7 @@ mod slots;
 mod walking;
 
 pub use hop::{Hop, Run};
-pub use world_defs::{Moved, Replayed, Turned, Why};
 pub use links::{Links, Occupied};
 pub(crate) use slots::{Slot, Slots};
 pub use walking::walk_alone;
+pub use world_defs::{Moved, Replayed, Turned, Why};

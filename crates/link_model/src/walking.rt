@@ -9,11 +9,11 @@ ghost use Rattle.world_defs.specs.Lone.{lone_place};
 ghost use Rattle.link_model.specs.Alone.{wire_in, left_at, IsAlone};
 
 use crate::links::Links;
-use world_defs::{Moved, Why};
 use myri_packet::{Packet, encode, has_route};
 use net_defs::{End, Place, Vertex};
 use packet_defs::Kind;
 use std::alloc::{AllocError, Global};
+use world_defs::{Moved, Why};
 
 /// Where a walk from a host ends: a packet without payload takes its turns, alone in these links. They are idle
 /// before and after.

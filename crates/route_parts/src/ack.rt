@@ -7,8 +7,8 @@ ghost use Rattle.route_parts.specs.Reading.{ack_body, ack_in, missing};
 
 use crate::fault::BodyFault;
 use crate::fronts::{byte_front, two_front};
-use world_defs::mapping_is_read;
 use std::alloc::{AllocError, Global};
+use world_defs::mapping_is_read;
 
 // The kind of its body.
 const KIND: u8 = 5;

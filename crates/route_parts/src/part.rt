@@ -11,11 +11,11 @@ use crate::entry::{EntryList, TableEntry};
 use crate::fault::BodyFault;
 use crate::fronts::{byte_front, numbers_front};
 use crate::reading::part_behind;
-use world_defs::mapping_is_read;
 use net_defs::Walk;
 use packet_defs::push_route;
 use std::alloc::{AllocError, Global};
 use std::marker::Model;
+use world_defs::mapping_is_read;
 
 // The kind of its body.
 const KIND: u8 = 4;

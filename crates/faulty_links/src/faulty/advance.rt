@@ -8,12 +8,11 @@ ghost use Rattle.world_defs.specs.Step.{advanced, cause_at_switch, cause_at_host
 ghost use Rattle.faulty_links.specs.Held.{with_part, reaching, IsHeardAt, IsToldOf, CountsDrop, IsHopOf, IsRunOf};
 
 use super::FaultyLinks;
-use world_defs::{Moved, Why};
 use link_model::{Hop, Run};
 use myri_packet::Packet;
 use net_defs::Vertex;
 use packet_defs::HostDrop;
-use world_defs::{Arrival, Cause, Effect};
+use world_defs::{Arrival, Cause, Effect, Moved, Why};
 
 impl FaultyLinks {
     /// The host that a channel's packet reaches by its next advance, and the packet, which stays where it is. None

@@ -8,10 +8,9 @@ ghost use Rattle.world_defs.specs.Step.{pulled, plugged};
 ghost use Rattle.faulty_links.specs.Held.{with_part};
 
 use super::FaultyLinks;
-use world_defs::Wire;
 use net_defs::End;
 use std::alloc::AllocError;
-use world_defs::{Effect, Said};
+use world_defs::{Effect, Said, Wire};
 
 impl FaultyLinks {
     /// The cable at a port is taken out, with the packets on it and those in limbo that were taken from it: idle

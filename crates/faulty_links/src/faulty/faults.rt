@@ -6,9 +6,8 @@ ghost use Rattle.world_defs.specs.Step.{lost, was_reset, repeated, held, flipped
 ghost use Rattle.faulty_links.specs.Held.{with_part};
 
 use super::FaultyLinks;
-use world_defs::Replayed;
 use std::alloc::{AllocError, Global};
-use world_defs::Effect;
+use world_defs::{Effect, Replayed};
 
 impl FaultyLinks {
     /// A channel's packet is lost: idle exactly where there is none.

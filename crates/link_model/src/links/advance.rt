@@ -11,8 +11,8 @@ use super::Links;
 use crate::Slot;
 use crate::course::{course, follow, next_channel, turned, without_turn};
 use crate::hop::{Hop, Run};
-use world_defs::{Course, Moved};
 use myri_packet::Packet;
+use world_defs::{Course, Moved};
 
 impl Links {
     /// One step of a channel: its packet goes on through a switch, to its host, or nowhere. `Blocked` where the next

@@ -5,9 +5,9 @@ ghost use Rattle.world_defs.specs.Crossed.{is_new};
 ghost use Rattle.world_defs.specs.Fault.{pull, plug, accept};
 
 use super::Links;
-use world_defs::Wire;
 use net_defs::End;
 use std::alloc::AllocError;
+use world_defs::Wire;
 
 impl Links {
     /// Takes out the cable at a port, the packets in its two channels, and those in limbo that were taken from them:

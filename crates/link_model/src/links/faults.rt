@@ -6,8 +6,8 @@ ghost use Rattle.world_defs.specs.Fault.{lose, reset, repeat, hold, flip, replay
 
 use super::Links;
 use crate::Slot;
-use world_defs::Replayed;
 use std::alloc::{AllocError, Global};
+use world_defs::Replayed;
 
 impl Links {
     /// Loses a channel's packet: false exactly where there is none.
