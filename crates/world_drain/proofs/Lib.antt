@@ -2,6 +2,7 @@ pub mod AtRest
 pub mod Cables
 pub mod Drained
 pub mod EventRows
+pub mod Ends
 pub mod Expiries
 pub mod GivingUp
 pub mod Heard

@@ -2,6 +2,7 @@
 
 ghost use Rattle.std.specs.Prelude.{◌≡◌, ◌≤◌, true, length, IfOk, OnOk, OnErr};
 ghost use Rattle.world_defs.specs.Links.{is_idle};
+ghost use Rattle.world_defs.specs.Traffic.{IsLawfulTraffic};
 ghost use Rattle.world_defs.specs.World.{host_count};
 ghost use Rattle.world_defs.specs.Step.{steps};
 ghost use Rattle.world_defs.specs.Drain.{resets_of, reset_count};
@@ -14,10 +15,12 @@ use fab_world::{Event, World};
 use std::alloc::{AllocError, Global};
 
 /// Clears the links: drains them, and then resets each channel that still holds a packet, by rising number. It
-/// answers how many resets there were. Running out of memory leaves a world that a prefix of its events leads to.
+/// answers how many resets there were: none where the traffic was lawful. Running out of memory leaves a world that a
+/// prefix of its events leads to.
 pub fn clear(alloc: Global, w: &mut World) -> Result<u64, AllocError>
     ensures resets { IfOk result (λ resets. resets ≡ (log.clear w.old).value) }
     ensures after { OnOk result (w.new ≡ (log.clear w.old).world) }
+    ensures lawful { IfOk result (λ resets. IsLawfulTraffic w.old → resets ≡ 0) }
     ensures few { IfOk result (λ resets. resets ≤ 8192) }
     ensures err { OnErr result (IsPartWay w.old (log.clear w.old).events w.new) }
     ensures idle { OnOk result (is_idle w.new.links ≡ true) }
@@ -27,6 +30,7 @@ pub fn clear(alloc: Global, w: &mut World) -> Result<u64, AllocError>
     ensures adopted { w.new.adopted ≡ w.old.adopted }
 {
     w.moment();
+    w.reached();
     drain(alloc, w)?;
     reset_full(alloc, w)
 }

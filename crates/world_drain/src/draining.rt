@@ -1,7 +1,9 @@
 //! Many events in a row: all packets run out.
 
-ghost use Rattle.std.specs.Prelude.{◌≡◌, ◌<◌, ◌≤◌, ◌∷◌, [], length, IfOk, IfSome, OnOk, OnErr};
-ghost use Rattle.world_defs.specs.Hops.{total_hops};
+ghost use Rattle.std.specs.Prelude.{◌≡◌, ◌<◌, ◌≤◌, ◌⊎◌, ◌∷◌, [], true, length, IfOk, IfSome, OnOk, OnErr};
+ghost use Rattle.world_defs.specs.Links.{is_idle};
+ghost use Rattle.world_defs.specs.Hops.{total_hops, is_stuck};
+ghost use Rattle.world_defs.specs.Traffic.{IsLawfulTraffic};
 ghost use Rattle.world_defs.specs.World.{host_count};
 ghost use Rattle.world_defs.specs.declared.event.Event.TheVariants.{Advance};
 ghost use Rattle.world_defs.specs.Step.{step};
@@ -17,11 +19,14 @@ use fab_world::World;
 use std::alloc::{AllocError, Global};
 
 /// Advances packets until none moves any more: how many advances changed something, at most the hops that the packets
-/// had left. Running out of memory leaves a world that a prefix of the drain's events leads to.
+/// had left. Each packet that is left then waits for a channel that is taken; none is left where the traffic was
+/// lawful. Running out of memory leaves a world that a prefix of the drain's events leads to.
 pub fn drain(alloc: Global, w: &mut World) -> Result<u64, AllocError>
     ensures ok { IfOk result (λ n. n ≡ changes (log.drain w.old).value) }
     ensures few { IfOk result (λ n. n ≤ total_hops w.old.links) }
     ensures after { OnOk result (w.new ≡ (log.drain w.old).world) }
+    ensures still { OnOk result ((is_idle w.new.links ≡ true) ⊎ (is_stuck w.new.links ≡ true)) }
+    ensures lawful { OnOk result (IsLawfulTraffic w.old → is_idle w.new.links ≡ true) }
     ensures err { OnErr result (IsPartWay w.old (log.drain w.old).events w.new) }
 {
     let watch = Watch {
@@ -33,18 +38,21 @@ pub fn drain(alloc: Global, w: &mut World) -> Result<u64, AllocError>
     Ok(seen.changes)
 }
 
-/// A drain, with what a mapper sees of it. Running out of memory leaves a world that a prefix of its events leads to.
-/// It stands in its callers, to which what was seen isn't handed over.
+/// A drain, with what a mapper sees of it: it leaves what [`drain`] does. Running out of memory leaves a world that a
+/// prefix of its events leads to. It stands in its callers, to which what was seen isn't handed over.
 #[inline(always)]
 pub fn drain_watching(alloc: Global, w: &mut World, watch: Watch) -> Result<Seen, AllocError>
     ensures seen { IfOk result (λ s. s ≡ seen_in watch (log.drain w.old).value) }
     ensures heard { IfOk result (λ s. IfSome s.probed (λ h. h < host_count w.old)) }
     ensures after { OnOk result (w.new ≡ (log.drain w.old).world) }
+    ensures still { OnOk result ((is_idle w.new.links ≡ true) ⊎ (is_stuck w.new.links ≡ true)) }
+    ensures lawful { OnOk result (IsLawfulTraffic w.old → is_idle w.new.links ≡ true) }
     ensures err { OnErr result (IsPartWay w.old (log.drain w.old).events w.new) }
     ensures cables { w.new.links.cables ≡ w.old.links.cables }
     ensures hosts { host_count w.new ≡ host_count w.old }
 {
     w.moment();
+    w.reached();
     drain_parts(alloc, w, &watch)
 }
 

@@ -1,10 +1,12 @@
 use Rattle.std.proofs.Common.{ap}
 use Rattle.world_defs.specs.Crossed.{life_channels}
+use Rattle.world_defs.specs.History.{fabric_at}
 use Rattle.world_defs.specs.Logs as log
 use Rattle.log_laws.proofs.Drains.{clear-within, clear-behind}
 use Rattle.fab_world.specs.Held.{IsLater}
 use Rattle.fab_world.proofs.Moments.{later-hosts, later-adopted}
 use Rattle.world_drain.proofs.Cables.{way-cables, log-cables, drain-leaves, clear-leaves, channels-stay}
+use Rattle.world_drain.proofs.Ends.{end-resets}
 use Rattle.world_drain.proofs.EventRows.{resets-later}
 use Rattle.world_drain.proofs.Later.{later-both, way-later, on-any, on-err}
 use Rattle.world_drain.proofs.Resets.{is-clear, is-idle}
@@ -35,6 +37,11 @@ done c =
 
 pub returns-clause-resets : goal.returns-clause-resets
 returns-clause-resets c = (is-clear c.args.w.now c.drain.new.w c.reset_full.new.w c.reset_full.result c.in_ok-drain.ensures.after c.reset_full.ensures.ok).0
+
+pub returns-clause-lawful : goal.returns-clause-lawful
+returns-clause-lawful c =
+    let w = c.args.w.now in
+    end-resets (fabric_at w.links.cables 0) w c.reset_full.result c.reached.ensures (returns-clause-resets c)
 
 pub returns-clause-after : goal.returns-clause-after
 returns-clause-after c = (is-clear c.args.w.now c.drain.new.w c.reset_full.new.w c.reset_full.result c.in_ok-drain.ensures.after c.reset_full.ensures.ok).1
