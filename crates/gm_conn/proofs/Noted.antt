@@ -14,7 +14,7 @@ use Rattle.world_defs.specs.Lane.{LaneState, new_lane}
 use Rattle.gm_conn.specs.Lane.{HostLane, in_state, unused, AreNumbered}
 use Rattle.gm_conn.specs.Lanes.{HostLanes, AreOf, lane_in, held_lane, states, nobody, NoneBetween, IsNext}
 use Rattle.gm_conn.specs.Lanes.IsNext.{next, nobody_left}
-use Rattle.gm_conn.specs.Sets.{Sets, is_owing, is_due, is_unacked, HasRoom, IsBareFor, AreBare, IsNoted, IsSetOf, AreTold}
+use Rattle.gm_conn.specs.Sets.{Sets, is_owing, is_due, is_unacked, IsBareFor, AreBare, IsNoted, IsSetOf, AreTold}
 use Rattle.gm_conn.proofs.Places.{AreFirst, first-all, kept-lanes, count-is, lane-is}
 
 -- ---- a lane was noted
@@ -70,14 +70,6 @@ key-ok (Err e) x q s ok err = ap (λ p. p.key) err
 pub key-if-ok : {A E : Type 0} (r : Result A E) (x q : HostLane) (s : A → LaneState) → IfOk r (λ a. q ≡ in_state x (s a)) → OnErr r (q ≡ x) → q.key ≡ x.key
 key-if-ok (Ok a) x q s ok err = ap (λ p. p.key) ok
 key-if-ok (Err e) x q s ok err = ap (λ p. p.key) err
-
--- each lane has its place in the sets
-pub room-of : (host hosts : ℕ) (ps : List HostLane) (s : Sets) (i : ℕ) → AreTold host hosts ps s → i < length ps → HasRoom s i
-room-of host hosts ps s i told low = record {
-  of_owing = let r = told.owing.room in omega (arith, r, low);
-  of_due = let r = told.due.room in omega (arith, r, low);
-  of_unacked = let r = told.unacked.room in omega (arith, r, low);
-}
 
 -- ---- before anything was sent
 set-first : (test : HostLane → Bool) (host n : ℕ) (ps : List HostLane) (words : List ℕ) → ((key : ConnectionKey) → test (unused key) ≡ false) → AreFirst host n ps → IsBareFor words n → IsSetOf test ps words

@@ -1,13 +1,13 @@
 -- The lanes of a host, one among others, as they change.
-use Rattle.std.proofs.Common.{◌≡◌, ◌<◌, ◌+◌, ◌++◌, ℕ, zero, suc, Bool, true, false, nat_eq, List, [], ◌∷◌, length, refl, sym, ap, ◌∙◌, subst, arith}
+use Rattle.std.proofs.Common.{◌≡◌, ◌<◌, ℕ, zero, suc, Bool, true, false, nat_eq, List, [], ◌∷◌, length, refl, sym, ap, ◌∙◌, subst, arith}
 use Rattle.std.specs.Prelude.{replicate, slice_index_or, slice_set, Result, Ok, Err, OnOk, IfOk}
 use Rattle.std.proofs.lemmas.Bool.Decides.{nat_tests}
-use Rattle.std.proofs.lemmas.List.{map-set, map-append, length-set, length-map, length-append, get_or-map, get_or-set_same, get_or-set_other, get_or_at, get_or_append_left, replicate-append-replicate}
+use Rattle.std.proofs.lemmas.List.{map-set, length-set, length-map, get_or-map, get_or-set_same, get_or-set_other}
 use Rattle.world_defs.specs.Lane.{LaneState, new_lane}
 use Rattle.world_defs.specs.Node.{lane_count, lane_of, prio_of, sends_on}
 use Rattle.world_defs.proofs.Lanes.{lane_of-below}
 use Rattle.gm_conn.specs.Lane.{HostLane, in_state, unused}
-use Rattle.gm_conn.specs.Lanes.{HostLanes, AreOf, all_unused, lane_in, held_lane, with_state, states, nobody}
+use Rattle.gm_conn.specs.Lanes.{HostLanes, AreOf, lane_in, held_lane, with_state, states, nobody}
 
 -- a value that was read within a list is the one at its place
 pub read-within : (ps : List HostLane) (i : ℕ) (x : HostLane) → i < length ps → x ≡ slice_index_or ps i x → x ≡ slice_index_or ps i nobody
@@ -86,33 +86,12 @@ pub record AreFirst (host n : ℕ) (ps : List HostLane) : Type 0 where
 pub first-none : (host : ℕ) → AreFirst host 0 []
 first-none host = record { counted = refl; own = λ k h. absurd (omega arith); states_are = refl }
 
-pub first-push : (host n : ℕ) (ps : List HostLane) → AreFirst host n ps → AreFirst host (n + 1) (ps ++ unused (sends_on host n) ∷ [])
-first-push host n ps first = record {
-  counted = let l = length-append ps (unused (sends_on host n) ∷ []) in let c = first.counted in omega (arith, l, c);
-  own = λ k below. by k below (nat_eq k n) refl;
-  states_are = map-append (λ p. p.state) ps (unused (sends_on host n) ∷ []) ∙ ap (λ l. l ++ new_lane ∷ []) first.states_are ∙ replicate-append-replicate n 1 new_lane;
-}
-  where
-    by : (k : ℕ) → k < n + 1 → (t : Bool) → nat_eq k n ≡ t → slice_index_or (ps ++ unused (sends_on host n) ∷ []) k nobody ≡ unused (sends_on host k)
-    by k below true t =
-        let f : k ≡ n = grind (arith, nat_tests) in
-        let c = first.counted in
-        get_or_at ps (unused (sends_on host n)) [] nobody k (omega (arith, c, f)) ∙ ap (λ j. unused (sends_on host j)) (sym f)
-    by k below false t =
-        let f : k < n = grind (arith, nat_tests) in
-        let c = first.counted in
-        get_or_append_left ps (unused (sends_on host n) ∷ []) nobody k (omega (arith, c, f)) ∙ first.own k f
-
 -- all of them
 pub first-all : (host hosts n : ℕ) (ps : List HostLane) → n ≡ lane_count hosts → AreFirst host n ps → AreOf host hosts ps
 first-all host hosts n ps all first = record {
   counted = first.counted ∙ all;
   own = λ k below. let c = first.counted in let o = first.own k (omega (arith, c, below)) in ap (λ p. p.key) o;
 }
-
-pub first-unused : (host hosts n : ℕ) (ps : List HostLane) → n ≡ lane_count hosts → AreFirst host n ps → record { host = host; hosts = hosts; lanes = states ps } ≡ all_unused host hosts
-first-unused host hosts n ps all first =
-    ap (λ (l : List LaneState). record { host = host; hosts = hosts; lanes = l }) (first.states_are ∙ ap (λ k. replicate k new_lane) all)
 
 -- a lane of a peer and a priority is one of them
 pub number-below : (v : HostLanes) (host hosts : ℕ) (ps : List HostLane) (peer prio : ℕ) → record { host = host; hosts = hosts; lanes = states ps } ≡ v → AreOf host hosts ps → peer < v.hosts

@@ -130,7 +130,7 @@ impl Lane {
     {
         match &self.used {
             None => 0,
-            Some(used) => used.unacked(),
+            Some(used) => used.sender.unacked(),
         }
     }
 
@@ -155,7 +155,7 @@ impl Lane {
                 prio: self.key.prio,
                 next: 0,
             },
-            Some(used) => used.ack(),
+            Some(used) => used.receiver.ack(),
         }
     }
 
@@ -167,7 +167,7 @@ impl Lane {
     {
         match &self.used {
             None => false,
-            Some(used) => used.is_spent(len),
+            Some(used) => used.sender.is_spent(len),
         }
     }
 
@@ -313,7 +313,7 @@ impl Lane {
     {
         match &self.used {
             None => &[],
-            Some(used) => used.sent(),
+            Some(used) => used.sent.list(),
         }
     }
 
@@ -323,7 +323,7 @@ impl Lane {
     {
         match &self.used {
             None => &[],
-            Some(used) => used.got(),
+            Some(used) => used.got.list(),
         }
     }
 

@@ -145,7 +145,7 @@ impl Lanes {
     pub fn unacked(&self, peer: u16) -> u64
         requires { peer < self.now.hosts }
         ensures sum { result ≡ unacknowledged_to self.now peer }
-        ensures few { result ≤ 8589934590 }
+        ensures bounded { result ≤ 8589934590 }
     {
         u64::from(self.lane(peer, 0).unacked()) + u64::from(self.lane(peer, 1).unacked())
     }

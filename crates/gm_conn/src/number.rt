@@ -6,7 +6,7 @@ ghost use Rattle.world_defs.specs.Node.{lane_count, lane_of, peer_of, prio_of};
 /// How many lanes a host has among so many.
 pub(crate) fn lane_count(hosts: u16) -> u32
     ensures number { result ≡ lane_count hosts }
-    ensures few { result < 2 ^ 17 }
+    ensures bounded { result < 2 ^ 17 }
 {
     2 * u32::from(hosts)
 }

@@ -41,7 +41,7 @@ impl DescRing {
     pub(crate) fn make_room(&mut self) -> bool
         ensures items { self.new.items ≡ self.old.items }
         ensures room { IsTrue result → 0 < self.new.spare }
-        ensures there { 0 < self.old.spare → IsTrue result }
+        ensures in_room { 0 < self.old.spare → IsTrue result }
         ensures none { result ≡ false → self.new ≡ self.old }
     {
         if let Some(ring) = &mut self.ring {
@@ -98,7 +98,7 @@ impl DescRing {
 fn enlarge(ring: &mut HeapCircularBuffer<Desc>) -> bool
     ensures items { ring.new.items ≡ ring.old.items }
     ensures room { IsTrue result → length ring.new.items < ring.new.capacity }
-    ensures there { length ring.old.items < ring.old.capacity → IsTrue result }
+    ensures in_room { length ring.old.items < ring.old.capacity → IsTrue result }
     ensures none { result ≡ false → ring.new ≡ ring.old }
 {
     if ring.len() < ring.capacity() {

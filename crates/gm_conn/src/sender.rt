@@ -95,7 +95,7 @@ impl Sender {
         requires { total ≤ message_limit }
         ensures refused { Refuses (offer_refusal self.old total) OfferRefusal.NoMemory result }
         ensures ok { OnOk result (0 < self.new.spare) }
-        ensures there { 0 < self.old.spare → offer_refusal self.old total ≡ None → IsOk result }
+        ensures in_room { 0 < self.old.spare → offer_refusal self.old total ≡ None → IsOk result }
         ensures stays { self.new ≡ record self.old { spare = self.new.spare } }
         ensures err { OnErr result (self.new ≡ self.old) }
     {

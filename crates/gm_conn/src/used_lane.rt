@@ -4,21 +4,18 @@ ghost use Rattle.std.specs.Prelude.{◌≡◌, ◌<◌, ◌≤◌, ◌+◌, ◌+
 ghost use Rattle.std.specs.Prelude.{IsSome, IfSome, OnOk, OnErr, IfOk, IfErr, is_some, option_map};
 ghost use Rattle.net_defs.specs.Refusal.{Refuses};
 ghost use Rattle.gm_defs.specs.Body.{is_prio, is_head, is_last, message_limit};
-ghost use Rattle.gm_defs.specs.Fragment.{piece_count};
-ghost use Rattle.gm_defs.specs.Connection.{connection, ack_on, due, unacknowledged, is_spent, took};
+ghost use Rattle.gm_defs.specs.Connection.{connection, due, took};
 ghost use Rattle.gm_defs.specs.declared.message.Message.{Message};
 ghost use Rattle.gm_conn.specs.Halves.{WaitsFor, finished};
 ghost use Rattle.world_defs.specs.Lane.{with_message, finished_by, lane_acknowledged, lane_expired, lane_sent_one};
 ghost use Rattle.world_defs.specs.Lane.{lane_answered, got_after, coming_after, lane_after};
 ghost use Rattle.world_defs.specs.Hearing.{message_of};
-ghost use Rattle.gm_conn.specs.Lane.{in_state, other_way, unused, due_frame, head_shown, head_of_frame, ticket_of};
+ghost use Rattle.gm_conn.specs.Lane.{in_state, unused, due_frame, head_shown, head_of_frame, ticket_of};
 ghost use Rattle.gm_conn.specs.Lane.{message_in, accept_refusal, AreNumbered};
 ghost use Rattle.gm_conn.specs.MessageList.{HasRoom, messages_in};
 
 use crate::message_list::MessageList;
-use crate::{
-    Ack, Desc, DueFrame, Envelope, FrameHead, OfferRefusal, Receiver, Sender, Ticket, Took,
-};
+use crate::{Desc, DueFrame, Envelope, FrameHead, OfferRefusal, Receiver, Sender, Ticket, Took};
 use gm_defs::{Blob, Message};
 use reg_mem::Reg;
 use std::alloc::{AllocError, Global};
@@ -28,10 +25,10 @@ use std::mem;
 /// What a host sends to a peer of one priority, and what it takes from there. The messages on both sides are kept.
 #[derive(Drop)]
 pub(crate) struct UsedLane {
-    sender: Sender,
-    sent: MessageList,
-    receiver: Receiver,
-    got: MessageList,
+    pub(crate) sender: Sender,
+    pub(crate) sent: MessageList,
+    pub(crate) receiver: Receiver,
+    pub(crate) got: MessageList,
     // The bytes that came so far of the message that is taken in part.
     coming: Blob,
     owes: bool,
@@ -128,33 +125,11 @@ impl UsedLane {
         let _some = self.sender.expire();
     }
 
-    /// How many fragments to the peer aren't acknowledged, sent or not.
-    pub(crate) fn unacked(&self) -> u32
-        ensures { result ≡ unacknowledged self.now.state.sender }
-    {
-        self.sender.unacked()
-    }
-
     /// Whether the peer is owed an acknowledgement.
     pub(crate) fn owes(&self) -> bool
         ensures { result ≡ self.now.state.owes }
     {
         self.owes
-    }
-
-    /// The acknowledgement of what was taken from the peer.
-    pub(crate) fn ack(&self) -> Ack
-        ensures { result ≡ ack_on (other_way self.now.key) self.now.state.taken }
-    {
-        self.receiver.ack()
-    }
-
-    /// Whether a message of so many bytes needs a number above 4,294,967,294.
-    pub(crate) fn is_spent(&self, len: u32) -> bool
-        requires { len ≤ message_limit }
-        ensures { result ≡ is_spent self.now.state.sender (piece_count len) }
-    {
-        self.sender.is_spent(len)
     }
 
     /// Accepts a message of the lane's priority for the peer, the first so many bytes of a buffer, with the number of
@@ -241,20 +216,6 @@ impl UsedLane {
         keep(alloc, &mut self.got, &mut self.coming, took, h, part)?;
         self.owes = true;
         Ok(self.receiver.on_frame(h, fits))
-    }
-
-    /// The messages that were accepted for the peer, in order.
-    pub(crate) fn sent(&self) -> &[Message]
-        ensures { result.now ≡ self.now.state.sent }
-    {
-        self.sent.list()
-    }
-
-    /// The messages that were taken from the peer, in order.
-    pub(crate) fn got(&self) -> &[Message]
-        ensures { result.now ≡ self.now.state.got }
-    {
-        self.got.list()
     }
 }
 

@@ -71,7 +71,7 @@ pub fn next_marked(words: &[u64], from: usize) -> Option<usize>
 
 // The least marked number of the words from one on.
 fn first_from(words: &[u64], start: usize) -> Option<usize>
-    requires few { length words.now ≤ 2 ^ 32 }
+    requires bounded { length words.now ≤ 2 ^ 32 }
     requires start { start ≤ length words.now }
     ensures next { IfSome result (IsNextMark words.now (64 * start)) }
     ensures none { IfNone result ((k : ℕ) → 64 * start ≤ k → mark_at words.now k ≡ 0) }
