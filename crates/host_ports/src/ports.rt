@@ -17,7 +17,7 @@ use crate::ask::{NodeBegin, NodeClose, NodeProvide, NotOpen, PortSend};
 use crate::slot;
 use gm_defs::{FrameHead, TokenPlace};
 use gm_port::{Port, PortEvent, SendAsk, Wreck};
-use gm_tokens::{RecvToken, SendToken};
+use gm_tokens::{RecvToken, SendToken, is_too_long};
 use reg_mem::Reg;
 use std::alloc::{AllocError, Global};
 use std::marker::Model;
@@ -99,7 +99,10 @@ impl Ports {
         requires { h.now.dport < 8 }
         ensures { result ≡ port_takes (open_at self.now h.now.dport) h.now }
     {
-        slot::can_take(&self.ports[usize::from(h.dport)], h)
+        match self.at(h.dport) {
+            Some(open) => open.can_take(h),
+            None => false,
+        }
     }
 
     /// Why a send of so many bytes of a buffer is refused: NotOpen, TooLong above the greatest length of a message,
@@ -108,7 +111,15 @@ impl Ports {
         requires { port < 8 }
         ensures { result ≡ send_bar (open_at self.now port) len buffer.now }
     {
-        slot::refuse_send(&self.ports[usize::from(port)], len, buffer)
+        if self.at(port).is_none() {
+            Some(PortSend::NotOpen)
+        } else if is_too_long(len) {
+            Some(PortSend::TooLong)
+        } else if buffer.len() < len as usize {
+            Some(PortSend::BufferShort)
+        } else {
+            None
+        }
     }
 
     /// Takes a message to send, which is not refused.
@@ -168,7 +179,10 @@ impl Ports {
         requires unfinished { IsSome (unfinished_at self.now port token) }
         ensures { option_map (λ s. s.buffer) (unfinished_at self.now port token) ≡ Some result.now }
     {
-        slot::sending(&self.ports[usize::from(port)], token)
+        match self.at(port) {
+            Some(open) => open.sending(usize::from(token)),
+            None => unreachable!(),
+        }
     }
 
     /// Hands out the event that was put in first. None exactly where no event waits, NotOpen exactly where the port
@@ -219,7 +233,22 @@ impl Ports {
         requires { port < 8 }
         ensures { result ≡ place_at (open_at self.now port) send number }
     {
-        slot::place(&self.ports[usize::from(port)], send, number)
+        match self.at(port) {
+            Some(open) => open.place(send, number),
+            None => None,
+        }
+    }
+
+    // A port, where it is open.
+    fn at(&self, port: u8) -> Option<&Port>
+        requires { port < 8 }
+        ensures open { IfSome result (λ p. open_at self.now port ≡ Some p.now.state) }
+        ensures closed { IfNone result (open_at self.now port ≡ None) }
+    {
+        match &self.ports[usize::from(port)] {
+            Some(open) => Some(open),
+            None => None,
+        }
     }
 
     /// Spends the ports of a host, all of which are closed.

@@ -1,7 +1,7 @@
-//! The place of one port, where it may be open.
+//! What changes one port, where it is open.
 
-ghost use Rattle.std.specs.Prelude.{◌≡◌, ◌<◌, ℕ, map, true, None, length, is_some, Some, IfOk, IfErr, IfSome, OnOk};
-ghost use Rattle.std.specs.Prelude.{OnErr, MatchResult, MatchOption, option_map, IsSome};
+ghost use Rattle.std.specs.Prelude.{◌≡◌, ◌<◌, map, true, None, length, is_some, Some, IfOk, IfErr, IfSome, OnOk};
+ghost use Rattle.std.specs.Prelude.{OnErr, MatchResult, option_map};
 ghost use Rattle.std.specs.Option.{ForSome};
 ghost use Rattle.gm_defs.specs.Body.{is_head};
 ghost use Rattle.gm_defs.specs.Token.{place_of_send, place_of_recv};
@@ -9,29 +9,14 @@ ghost use Rattle.gm_defs.specs.Port.{sent_with, provided_with, send_of, finished
 ghost use Rattle.gm_tokens.specs.Token.{token_at};
 ghost use Rattle.gm_port.specs.Held.{send_at, receive_at, event_at};
 ghost use Rattle.world_defs.specs.Hearing.{port_takes};
-ghost use Rattle.host_ports.specs.Held.{state_at, changed_port, place_at, unfinished_of};
+ghost use Rattle.host_ports.specs.Held.{state_at, changed_port};
 ghost use Rattle.host_ports.specs.Refusal.{send_bar, provide_bar, close_bar, close_word};
 
-use crate::ask::{NodeClose, NodeProvide, NotOpen, PortSend};
+use crate::ask::{NodeClose, NodeProvide, NotOpen};
 use gm_defs::{FrameHead, TokenPlace};
 use gm_port::{CloseRefusal, Port, PortEvent, ProvideRefusal, SendAsk, Wreck};
-use gm_tokens::{RecvToken, SendToken, is_too_long};
+use gm_tokens::{RecvToken, SendToken};
 use reg_mem::Reg;
-
-// Why a send of so many bytes of a buffer is refused.
-pub(crate) fn refuse_send(slot: &Option<Port>, len: u32, buffer: &[u8]) -> Option<PortSend>
-    ensures { result ≡ send_bar (state_at slot.now) len buffer.now }
-{
-    if slot.is_none() {
-        Some(PortSend::NotOpen)
-    } else if is_too_long(len) {
-        Some(PortSend::TooLong)
-    } else if buffer.len() < len as usize {
-        Some(PortSend::BufferShort)
-    } else {
-        None
-    }
-}
 
 // Takes a message to send.
 pub(crate) fn send(slot: &mut Option<Port>, t: SendToken, b: Reg, a: SendAsk)
@@ -98,16 +83,6 @@ fn is_unfinished(port: &Port, number: u16) -> bool
     port.place(true, number) == Some(TokenPlace::Queue)
 }
 
-// Whether the port is open and takes a fragment.
-pub(crate) fn can_take(slot: &Option<Port>, h: &FrameHead) -> bool
-    ensures { result ≡ port_takes (state_at slot.now) h.now }
-{
-    match slot {
-        Some(port) => port.can_take(h),
-        None => false,
-    }
-}
-
 // A fragment came that the port takes.
 pub(crate) fn deliver(slot: &mut Option<Port>, h: &FrameHead, part: &[u8])
     requires taken { port_takes (state_at slot.old) h.now ≡ true }
@@ -117,17 +92,6 @@ pub(crate) fn deliver(slot: &mut Option<Port>, h: &FrameHead, part: &[u8])
 {
     match slot {
         Some(port) => port.deliver(h, part),
-        None => unreachable!(),
-    }
-}
-
-// The bytes of the buffer of an unfinished send.
-pub(crate) fn sending(slot: &Option<Port>, token: u16) -> &[u8]
-    requires { IsSome (unfinished_of (state_at slot.now) token) }
-    ensures { option_map (λ s. s.buffer) (unfinished_of (state_at slot.now) token) ≡ Some result.now }
-{
-    match slot {
-        Some(port) => port.sending(usize::from(token)),
         None => unreachable!(),
     }
 }
@@ -179,16 +143,6 @@ pub(crate) fn abandon(slot: &mut Option<Port>) -> Option<Wreck>
 {
     match slot.take() {
         Some(port) => Some(port.abandon()),
-        None => None,
-    }
-}
-
-// The place of a token.
-pub(crate) fn place(slot: &Option<Port>, send: bool, number: u16) -> Option<TokenPlace>
-    ensures { result ≡ place_at (state_at slot.now) send number }
-{
-    match slot {
-        Some(port) => port.place(send, number),
         None => None,
     }
 }
