@@ -1,10 +1,10 @@
 -- Entries in front of bytes, read one after another.
-use Rattle.std.proofs.Common.{◌≡◌, ◌<◌, ◌≤◌, ◌+◌, ◌^◌, ℕ, zero, suc, List, [], ◌∷◌, ◌++◌, Bool, true, false, ◌&&◌, length, take, get_or, nat_lt, nat_le, Option, Some, None, IsSome, is_some, option_map, refl, ap, sym, ◌∙◌, arith, append_assoc}
+use Rattle.std.proofs.Common.{◌≡◌, ◌<◌, ◌≤◌, ◌+◌, ◌^◌, ℕ, zero, suc, List, [], ◌∷◌, ◌++◌, Bool, true, false, ◌&&◌, length, take, get_or, nat_lt, nat_le, Option, Some, None, is_some, option_map, refl, ap, sym, ◌∙◌, arith, append_assoc}
 use Rattle.std.specs.Prelude.{ℤ, option_and_then}
 use Rattle.std.specs.Int.{w16, to_be_bytes}
 use Rattle.std.proofs.lemmas.List.{append-nil}
 use Rattle.std.specs.List.{list_all}
-use Rattle.std.proofs.lemmas.Bool.{and_parts}
+use Rattle.std.proofs.lemmas.Bool.{and_parts, false≢true}
 use Rattle.std.proofs.lemmas.Bool.Decides.{nat_tests}
 use Rattle.packet_defs.specs.RouteByte.{turn_of, is_route_byte, turns_of}
 use Rattle.world_defs.specs.Mapping.{RouteEntry, Front, entry_front, entries_front, whole, is_route, are_entries, entry_bytes, route_bytes}
@@ -75,30 +75,32 @@ risen-next before e (Some es) up fits route =
 pub entry-is : (to : ℕ) (turns behind bytes : List ℕ) (walk : List ℤ) → turns_of turns ≡ Some walk → entry_viewed (Some ((to, turns), behind)) ≡ entry_front bytes → entry_front bytes ≡ Some (record { to = to; walk = walk }, behind)
 entry-is to turns behind bytes walk t e = sym e ∙ ap (option_map (λ (w : List ℤ). (record { to = to; walk = w }, behind))) t
 
-pub rise-next : (before : Option ℕ) (k to : ℕ) (turns behind bytes : List ℕ) → entry_viewed (Some ((to, turns), behind)) ≡ entry_front bytes → to < 2 ^ 16 → length turns ≤ 64 → IsSome (turns_of turns) → is_above before to ≡ true → rise_from before (suc k) bytes ≡ rise_from (Some to) k behind
-rise-next before k to turns behind bytes e fits few there up = by (turns_of turns) refl there
+pub rise-read : (before : Option ℕ) (k to : ℕ) (turns behind bytes : List ℕ) (walk : List ℤ) → entry_viewed (Some ((to, turns), behind)) ≡ entry_front bytes → turns_of turns ≡ Some walk → to < 2 ^ 16 → length turns ≤ 64 → is_above before to ≡ true → rise_from before (suc k) bytes ≡ rise_from (Some to) k behind
+rise-read before k to turns behind bytes walk e t fits few up =
+    ap (are_risen before) (entries-next k bytes behind (record { to = to; walk = walk }) (entry-is to turns behind bytes walk t e))
+    ∙ risen-next before (record { to = to; walk = walk }) (whole (entries_front k behind)) up fits (read-route turns walk few t)
+
+pub rise-next : (before : Option ℕ) (k to : ℕ) (turns behind bytes : List ℕ) → entry_viewed (Some ((to, turns), behind)) ≡ entry_front bytes → is_some (turns_of turns) ≡ true → to < 2 ^ 16 → length turns ≤ 64 → is_above before to ≡ true → rise_from before (suc k) bytes ≡ rise_from (Some to) k behind
+rise-next before k to turns behind bytes e there fits few up = by (turns_of turns) refl there
   where
-    by : (o : Option (List ℤ)) → turns_of turns ≡ o → IsSome o → rise_from before (suc k) bytes ≡ rise_from (Some to) k behind
-    by None t n = cc
-    by (Some walk) t n =
-        ap (are_risen before) (entries-next k bytes behind (record { to = to; walk = walk }) (entry-is to turns behind bytes walk t e))
-        ∙ risen-next before (record { to = to; walk = walk }) (whole (entries_front k behind)) up fits (read-route turns walk few t)
+    by : (o : Option (List ℤ)) → turns_of turns ≡ o → is_some o ≡ true → rise_from before (suc k) bytes ≡ rise_from (Some to) k behind
+    by None t n = absurd (false≢true n)
+    by (Some walk) t n = rise-read before k to turns behind bytes walk e t fits few up
 
 pub rise-none : (before : Option ℕ) (k : ℕ) (bytes : List ℕ) → entry_front bytes ≡ None → rise_from before (suc k) bytes ≡ false
 rise-none before k bytes e = ap (are_risen before) (entries-none k bytes e)
 
-pub rise-low : (before : Option ℕ) (k to : ℕ) (turns behind bytes : List ℕ) → entry_viewed (Some ((to, turns), behind)) ≡ entry_front bytes → IsSome (turns_of turns) → is_above before to ≡ false → rise_from before (suc k) bytes ≡ false
-rise-low before k to turns behind bytes e there low = by (turns_of turns) refl there
+pub rise-low : (before : Option ℕ) (k to : ℕ) (turns behind bytes : List ℕ) (walk : List ℤ) → entry_viewed (Some ((to, turns), behind)) ≡ entry_front bytes → turns_of turns ≡ Some walk → is_above before to ≡ false → rise_from before (suc k) bytes ≡ false
+rise-low before k to turns behind bytes walk e t low =
+    ap (are_risen before) (entries-next k bytes behind (record { to = to; walk = walk }) (entry-is to turns behind bytes walk t e))
+    ∙ off (whole (entries_front k behind))
   where
-    off : (w : List ℤ) (o : Option (List RouteEntry)) → are_risen before (option_map (λ es. record { to = to; walk = w } ∷ es) o) ≡ false
-    off w None = refl
-    off w (Some es) = rw low refl
+    off : (o : Option (List RouteEntry)) → are_risen before (option_map (λ es. record { to = to; walk = walk } ∷ es) o) ≡ false
+    off None = refl
+    off (Some es) = rw low refl
 
-    by : (o : Option (List ℤ)) → turns_of turns ≡ o → IsSome o → rise_from before (suc k) bytes ≡ false
-    by None t n = cc
-    by (Some walk) t n =
-        ap (are_risen before) (entries-next k bytes behind (record { to = to; walk = walk }) (entry-is to turns behind bytes walk t e))
-        ∙ off walk (whole (entries_front k behind))
+pub rise-stuck : (before : Option ℕ) (k to : ℕ) (turns behind bytes : List ℕ) → entry_viewed (Some ((to, turns), behind)) ≡ entry_front bytes → turns_of turns ≡ None → rise_from before (suc k) bytes ≡ false
+rise-stuck before k to turns behind bytes e none = rise-none before k bytes (sym e ∙ ap (option_map (λ (w : List ℤ). (record { to = to; walk = w }, behind))) none)
 
 -- entries that were read, and one more
 pub entries-read : (before : List RouteEntry) (k to : ℕ) (turns behind bytes : List ℕ) (walk : List ℤ) → entry_viewed (Some ((to, turns), behind)) ≡ entry_front bytes → turns_of turns ≡ Some walk → option_map (λ es. before ++ es) (whole (entries_front (suc k) bytes)) ≡ option_map (λ es. (before ++ record { to = to; walk = walk } ∷ []) ++ es) (whole (entries_front k behind))

@@ -1,5 +1,5 @@
 -- A part of a table in front of bytes: its numbers, its way back, its entries, and the rules.
-use Rattle.std.proofs.Common.{◌≡◌, ◌<◌, ◌≤◌, ◌^◌, ℕ, zero, suc, List, [], ◌∷◌, Bool, true, false, ◌&&◌, length, nat_eq, nat_lt, nat_le, Option, Some, None, IsSome, option_map, refl, ap, sym, ◌∙◌, arith, if◌then◌else◌}
+use Rattle.std.proofs.Common.{◌≡◌, ◌<◌, ◌≤◌, ◌^◌, ℕ, zero, suc, List, [], ◌∷◌, Bool, true, false, ◌&&◌, length, nat_eq, nat_lt, nat_le, Option, Some, None, is_some, option_map, ◌⊎◌, inl, inr, refl, ap, sym, ◌∙◌, arith, if◌then◌else◌}
 use Rattle.std.specs.Prelude.{ℤ, option_and_then, Result, Ok, Err, IfOk}
 use Rattle.std.specs.List.{list_all}
 use Rattle.std.specs.Int.{w16, w32, w64}
@@ -11,6 +11,7 @@ use Rattle.packet_defs.specs.RouteByte.{turns_of}
 use Rattle.world_defs.specs.Mapping.MappingBody.{HostProbe, HostReply, Loopback, Part, PartAck}
 use Rattle.route_parts.specs.declared.head.Head.{Head}
 use Rattle.route_parts.specs.declared.fault.BodyFault.{BodyFault}
+use Rattle.route_parts.specs.declared.fault.BodyFault.TheVariants.{Malformed, NoMemory}
 use Rattle.route_parts.specs.Reading.{of_part, part_in, missing, bytes_front, numbers_front, part_of, ruled, part_behind, are_risen, rise_from}
 use Rattle.route_parts.specs.Viewing.{route_viewed, part_with, part_viewed, is_ruled}
 use Rattle.route_parts.proofs.Entries.{read-route, whole-changed}
@@ -99,16 +100,19 @@ part-other kind bytes other = by (nat_eq kind 1) (nat_eq kind 2) (nat_eq kind 3)
     by false false false false false p = refl
 
 -- the routes of a part, by their bytes
-pub behind-viewed : (h : Head) (bytes back rest entries : List ℕ) (count : ℕ) → route_viewed (Some (back, rest)) ≡ route_front bytes → IsSome (turns_of back) → byte_front rest ≡ Some (count, entries) → part_behind h bytes ≡ ruled (part_viewed h back count entries)
-behind-viewed h bytes back rest entries count e there f = by (turns_of back) refl there
+pub behind-no_route : (h : Head) (bytes : List ℕ) → route_front bytes ≡ None → part_behind h bytes ≡ None
+behind-no_route h bytes e = ap (λ (o : Front (List ℤ)). ruled (whole (option_and_then (λ b. with_entries (record (part_of h) { back = b.0 }) b.1) o))) e
+
+pub behind-viewed : (h : Head) (bytes back rest entries : List ℕ) (count : ℕ) → route_viewed (Some (back, rest)) ≡ route_front bytes → byte_front rest ≡ Some (count, entries) → part_behind h bytes ≡ ruled (part_viewed h back count entries)
+behind-viewed h bytes back rest entries count e f = by (turns_of back) refl
   where
     put : (walk : List ℤ) (o : Option (List RouteEntry)) → option_map (λ es. record (record (part_of h) { back = walk }) { entries = es }) o ≡ part_with h (Some walk) o
     put walk None = refl
     put walk (Some es) = refl
 
-    by : (o : Option (List ℤ)) → turns_of back ≡ o → IsSome o → part_behind h bytes ≡ ruled (part_with h o (whole (entries_front count entries)))
-    by None t n = cc
-    by (Some walk) t n =
+    by : (o : Option (List ℤ)) → turns_of back ≡ o → part_behind h bytes ≡ ruled (part_with h o (whole (entries_front count entries)))
+    by None t = behind-no_route h bytes (sym e ∙ ap (option_map (λ (w : List ℤ). (w, rest))) t)
+    by (Some walk) t =
         let front : route_front bytes ≡ Some (walk, rest) = sym e ∙ ap (option_map (λ (w : List ℤ). (w, rest))) t in
         ap ruled
         (ap (λ (o : Front (List ℤ)). whole (option_and_then (λ b. with_entries (record (part_of h) { back = b.0 }) b.1) o)) front
@@ -116,15 +120,12 @@ behind-viewed h bytes back rest entries count e there f = by (turns_of back) ref
         ∙ whole-changed (λ es. record (record (part_of h) { back = walk }) { entries = es }) (entries_front count entries)
         ∙ put walk (whole (entries_front count entries)))
 
-pub behind-no_route : (h : Head) (bytes : List ℕ) → route_front bytes ≡ None → part_behind h bytes ≡ None
-behind-no_route h bytes e = ap (λ (o : Front (List ℤ)). ruled (whole (option_and_then (λ b. with_entries (record (part_of h) { back = b.0 }) b.1) o))) e
-
-pub behind-no_count : (h : Head) (bytes back rest : List ℕ) → route_viewed (Some (back, rest)) ≡ route_front bytes → IsSome (turns_of back) → byte_front rest ≡ None → part_behind h bytes ≡ None
-behind-no_count h bytes back rest e there f = by (turns_of back) refl there
+pub behind-no_count : (h : Head) (bytes back rest : List ℕ) → route_viewed (Some (back, rest)) ≡ route_front bytes → byte_front rest ≡ None → part_behind h bytes ≡ None
+behind-no_count h bytes back rest e f = by (turns_of back) refl
   where
-    by : (o : Option (List ℤ)) → turns_of back ≡ o → IsSome o → part_behind h bytes ≡ None
-    by None t n = cc
-    by (Some walk) t n =
+    by : (o : Option (List ℤ)) → turns_of back ≡ o → part_behind h bytes ≡ None
+    by None t = behind-no_route h bytes (sym e ∙ ap (option_map (λ (w : List ℤ). (w, rest))) t)
+    by (Some walk) t =
         let front : route_front bytes ≡ Some (walk, rest) = sym e ∙ ap (option_map (λ (w : List ℤ). (w, rest))) t in
         ap (λ (o : Front (List ℤ)). ruled (whole (option_and_then (λ b. with_entries (record (part_of h) { back = b.0 }) b.1) o))) front
         ∙ ap (λ (o : Front ℕ). ruled (whole (option_and_then (λ n. option_map (λ es. (record (record (part_of h) { back = walk }) { entries = es.0 }, es.1)) (entries_front n.0 n.1)) o))) f
@@ -247,14 +248,29 @@ part-said (Some (Loopback a b)) p e = cc
 part-said (Some (Part q)) p e = cc
 part-said (Some (PartAck a b c)) p e = cc
 
--- a part whose bytes are known to be one
-pub part-there : (h : Head) (back bytes : List ℕ) (count : ℕ) → IsSome (turns_of back) → rise_from None count bytes ≡ true → missing (part_viewed h back count bytes) ≡ None
-part-there h back bytes count there rise = by (turns_of back) (whole (entries_front count bytes)) there rise
+-- bytes that are a part, and bytes that are none
+pub part-there : (h : Head) (back bytes : List ℕ) (count : ℕ) → (is_some (turns_of back) && rise_from None count bytes) ≡ true → missing (part_viewed h back count bytes) ≡ None
+part-there h back bytes count both = by (turns_of back) (whole (entries_front count bytes)) both
   where
-    by : (o : Option (List ℤ)) (p : Option (List RouteEntry)) → IsSome o → are_risen None p ≡ true → missing (part_with h o p) ≡ None
-    by None p t r = cc
-    by (Some walk) None t r = cc
-    by (Some walk) (Some es) t r = refl
+    by : (o : Option (List ℤ)) (p : Option (List RouteEntry)) → (is_some o && are_risen None p) ≡ true → missing (part_with h o p) ≡ None
+    by None p t = cc
+    by (Some walk) None t = cc
+    by (Some walk) (Some es) t = refl
+
+pub part-not_there : (h : Head) (back bytes : List ℕ) (count : ℕ) → (is_some (turns_of back) && rise_from None count bytes) ≡ false → ruled (part_viewed h back count bytes) ≡ None
+part-not_there h back bytes count both = by (turns_of back) refl both
+  where
+    by : (o : Option (List ℤ)) → turns_of back ≡ o → (is_some o && rise_from None count bytes) ≡ false → ruled (part_viewed h back count bytes) ≡ None
+    by None t e = ap (λ o. ruled (part_with h o (whole (entries_front count bytes)))) t
+    by (Some walk) t e = part-not_risen h back bytes count e
+
+-- why nothing is read where memory runs out
+pub part-refused : (h : Head) (back bytes : List ℕ) (count : ℕ) (f : BodyFault) → ((is_some (turns_of back) && rise_from None count bytes) ≡ true → ruled (part_viewed h back count bytes) ≡ part_viewed h back count bytes) → f ≡ (if is_some (turns_of back) && rise_from None count bytes then NoMemory else Malformed) → (missing (ruled (part_viewed h back count bytes)) ≡ Some f) ⊎ ((missing (ruled (part_viewed h back count bytes)) ≡ None) × (f ≡ NoMemory))
+part-refused h back bytes count f rules e = by (is_some (turns_of back) && rise_from None count bytes) refl e
+  where
+    by : (b : Bool) → (is_some (turns_of back) && rise_from None count bytes) ≡ b → f ≡ (if b then NoMemory else Malformed) → (missing (ruled (part_viewed h back count bytes)) ≡ Some f) ⊎ ((missing (ruled (part_viewed h back count bytes)) ≡ None) × (f ≡ NoMemory))
+    by true t g = inr (ap missing (rules t) ∙ part-there h back bytes count t, g)
+    by false t g = inl (ap missing (part-not_there h back bytes count t) ∙ ap Some (sym g))
 
 -- what is read is by the rules
 pub behind-ruled : (h : Head) (bytes : List ℕ) (p : RoutePart) → part_behind h bytes ≡ Some p → is_part p ≡ true

@@ -81,7 +81,7 @@ impl RoutePart {
         push_entries(bytes, self.entries.list())
     }
 
-    /// The part that is all of the bytes. `Malformed` exactly where they are none, before it takes memory.
+    /// The part that is all of the bytes. `Malformed` exactly where they are none.
     pub fn decode(alloc: Global, bytes: &[u8]) -> Result<RoutePart, BodyFault>
         ensures ok { IfOk result (λ part. decode_mapping bytes.now ≡ Some (MappingBody.Part part)) }
         ensures by_rules { IfOk result (λ part. is_part part ≡ true) }

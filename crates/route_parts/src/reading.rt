@@ -1,9 +1,11 @@
 //! From bytes to a part, once its numbers are known.
 
-ghost use Rattle.std.specs.Prelude.{◌≡◌, ◌<◌, ◌≤◌, ◌^◌, length, true, Some, None, IfOk, IfSome, IsSome};
+ghost use Rattle.std.specs.Prelude.{◌≡◌, ◌<◌, ◌≤◌, ◌^◌, ◌&&◌, length, true, is_some, Some, None, IfOk, IfSome};
+ghost use Rattle.std.specs.Prelude.{if◌then◌else◌};
 ghost use Rattle.net_defs.specs.Refusal.{Refuses};
 ghost use Rattle.world_defs.specs.Mapping.{is_part, entries_front, whole};
 ghost use Rattle.packet_defs.specs.RouteByte.{turns_of};
+ghost use Rattle.route_parts.specs.declared.fault.BodyFault.TheVariants.{Malformed, NoMemory};
 ghost use Rattle.route_parts.specs.Reading.{part_behind, rise_from, missing};
 ghost use Rattle.route_parts.specs.Viewing.{part_viewed, is_ruled};
 
@@ -12,10 +14,10 @@ use crate::fault::BodyFault;
 use crate::fronts::byte_front;
 use crate::head::Head;
 use crate::part::RoutePart;
-use crate::routes::{entry_front, rise_from, route_front};
+use crate::routes::{are_turns, entry_front, is_above, rise_from, route_front};
 use net_defs::Walk;
 use packet_defs::{TurnFault, walk_of};
-use std::alloc::Global;
+use std::alloc::{AllocError, Global};
 
 /// The part of these numbers whose routes are all of the bytes.
 pub(crate) fn part_behind(alloc: Global, head: Head, bytes: &[u8]) -> Result<RoutePart, BodyFault>
@@ -33,12 +35,12 @@ pub(crate) fn part_behind(alloc: Global, head: Head, bytes: &[u8]) -> Result<Rou
     if !is_ruled(head, count) {
         return Err(BodyFault::Malformed);
     }
-    if !rise_from(None, count, rest) {
-        return Err(BodyFault::Malformed);
-    }
     match read_part(alloc, head, back, count, rest) {
-        Some(part) => Ok(part),
-        None => Err(BodyFault::NoMemory),
+        Ok(read) => match read {
+            Some(part) => Ok(part),
+            None => Err(BodyFault::Malformed),
+        },
+        Err(_) => Err(fault_without_memory(back, count, rest)),
     }
 }
 
@@ -49,16 +51,37 @@ fn is_ruled(head: Head, count: u8) -> bool
     head.part < head.parts && head.parts <= 16 && 1 <= count && count <= 8
 }
 
-// The part whose bytes are known to be one. None where memory runs out.
-fn read_part(alloc: Global, head: Head, back: &[u8], count: u8, bytes: &[u8]) -> Option<RoutePart>
-    requires few { length back.now ≤ 64 }
-    requires turns { IsSome (turns_of back.now) }
-    requires rise { rise_from None count bytes.now ≡ true }
-    ensures { IfSome result (λ part. part_viewed head back.now count bytes.now ≡ Some part) }
+// Why nothing was read, where memory ran out: the bytes are looked at without any.
+fn fault_without_memory(back: &[u8], count: u8, bytes: &[u8]) -> BodyFault
+    ensures { result ≡ (if is_some (turns_of back.now) && rise_from None count bytes.now then NoMemory else Malformed) }
 {
-    let back = read_route(alloc, back)?;
-    let entries = read_entries(alloc, count, bytes)?;
-    Some(RoutePart {
+    if are_turns(back) && rise_from(None, count, bytes) {
+        BodyFault::NoMemory
+    } else {
+        BodyFault::Malformed
+    }
+}
+
+// The part of these numbers, by the bytes of its way back and of its entries. None where they are none.
+fn read_part(
+    alloc: Global,
+    head: Head,
+    back: &[u8],
+    count: u8,
+    bytes: &[u8],
+) -> Result<Option<RoutePart>, AllocError>
+    requires few { length back.now ≤ 64 }
+    ensures part { IfOk result (λ read. IfSome read (λ part. part_viewed head back.now count bytes.now ≡ Some part)) }
+    ensures there { IfOk result (λ read. is_some read
+        ≡ (is_some (turns_of back.now) && rise_from None count bytes.now)) }
+{
+    let Some(back) = read_route(alloc, back)? else {
+        return Ok(None);
+    };
+    let Some(entries) = read_entries(alloc, count, bytes)? else {
+        return Ok(None);
+    };
+    Ok(Some(RoutePart {
         epoch: head.epoch,
         mapper: head.mapper,
         dst: head.dst,
@@ -66,38 +89,48 @@ fn read_part(alloc: Global, head: Head, back: &[u8], count: u8, bytes: &[u8]) ->
         parts: head.parts,
         back,
         entries,
-    })
+    }))
 }
 
-// The route of bytes that are known to be one. None where memory runs out.
-fn read_route(alloc: Global, bytes: &[u8]) -> Option<Walk>
-    requires few { length bytes.now ≤ 64 }
-    requires turns { IsSome (turns_of bytes.now) }
-    ensures { IfSome result (λ walk. turns_of bytes.now ≡ Some walk) }
+// The route of bytes. None where they are none.
+fn read_route(alloc: Global, bytes: &[u8]) -> Result<Option<Walk>, AllocError>
+    requires { length bytes.now ≤ 64 }
+    ensures { IfOk result (λ walk. turns_of bytes.now ≡ walk) }
 {
     match walk_of(alloc, bytes) {
-        Ok(walk) => Some(walk),
-        Err(TurnFault::NoMemory) => None,
-        Err(TurnFault::Malformed) => unreachable!(),
+        Ok(walk) => Ok(Some(walk)),
+        Err(TurnFault::NoMemory) => Err(AllocError),
+        Err(TurnFault::Malformed) => Ok(None),
     }
 }
 
-// The entries whose bytes are known to be some. None where memory runs out.
-fn read_entries(alloc: Global, count: u8, bytes: &[u8]) -> Option<EntryList>
-    requires { rise_from None count bytes.now ≡ true }
-    ensures { IfSome result (λ entries. whole (entries_front count bytes.now) ≡ Some entries) }
+// So many entries that are all of the bytes, and rise. None where they are none.
+fn read_entries(alloc: Global, count: u8, bytes: &[u8]) -> Result<Option<EntryList>, AllocError>
+    ensures entries { IfOk result (λ read. IfSome read (λ es. whole (entries_front count bytes.now) ≡ Some es)) }
+    ensures rise { IfOk result (λ read. is_some read ≡ rise_from None count bytes.now) }
 {
-    let mut entries = Vec::with_capacity(alloc, usize::from(count)).ok()?;
+    let mut entries = Vec::with_capacity(alloc, usize::from(count))?;
+    let mut before = None;
     let mut left = count;
     let mut rest = bytes;
     while left > 0 {
         let Some(((to, turns), behind)) = entry_front(rest) else {
-            unreachable!();
+            return Ok(None);
         };
-        let walk = read_route(alloc, turns)?;
-        entries.push(TableEntry { to, walk }).ok()?;
+        let Some(walk) = read_route(alloc, turns)? else {
+            return Ok(None);
+        };
+        if !is_above(before, to) {
+            return Ok(None);
+        }
+        entries.push(TableEntry { to, walk })?;
+        before = Some(to);
         left -= 1;
         rest = behind;
     }
-    Some(EntryList::new(entries))
+    if rest.is_empty() {
+        Ok(Some(EntryList::new(entries)))
+    } else {
+        Ok(None)
+    }
 }
