@@ -13,7 +13,7 @@ ghost use Rattle.map_quotient.specs.Joining.{vertex_at, joined, joined_by, AreTa
 use crate::cables::add;
 use fabric_map::{FabricMap, MapCable};
 use probe::WalkIndex;
-use replicate_merge::Merged;
+use replicate_merge::{Merged, find_near};
 use std::alloc::AllocError;
 
 /// Joins in a map what the walks show. The classes have these vertices.
@@ -30,19 +30,21 @@ pub(crate) fn join_all(
     requires taken { AreTaken walks.now c.now vertices.now map.old }
     ensures { OnOk result (JoinsBelow walks.now c.now vertices.now map.old (length walks.now) map.new) }
 {
+    let mut likely = 0;
     for at in 0..walks.len() {
-        let told = told_cable(walks, c, vertices, at);
+        let told = told_cable(walks, c, vertices, at, &mut likely);
         join_told(map, told)?;
     }
     Ok(())
 }
 
-// The cable to the node of a walk.
+// The cable to the node of a walk. The walk in front is likely to stand where that of the walk before stands.
 fn told_cable(
     walks: &WalkIndex,
     c: &Merged,
     vertices: &[Option<u32>],
     at: usize,
+    likely: &mut u32,
 ) -> Option<MapCable>
     requires few { length walks.now + 1 < 2 ^ 32 }
     requires nodes { nodes_of walks.now ≡ c.now.nodes }
@@ -56,8 +58,11 @@ fn told_cable(
     let Some((turn, front)) = walks.walk(at).split_last() else {
         return Some(cable_between(c, vertices, 0, 0, node));
     };
-    match walks.find(front) {
-        Some(at) => Some(cable_between(c, vertices, (at + 1) as u32, *turn, node)),
+    match find_near(walks, front, *likely) {
+        Some(at) => {
+            *likely = at as u32;
+            Some(cable_between(c, vertices, (at + 1) as u32, *turn, node))
+        }
         None => None,
     }
 }

@@ -1,10 +1,10 @@
 -- What the classes of a journal say of its entries.
-use Rattle.std.proofs.Common.{◌≡◌, ◌≢◌, ◌<◌, ◌≤◌, ◌+◌, ℕ, zero, suc, List, [], ◌∷◌, map, length, Bool, true, false, not, true≢false, Some, sym, ◌∙◌, subst, ap, refl, arith, ◌⊎◌, inl, inr}
+use Rattle.std.proofs.Common.{◌≡◌, ◌≢◌, ◌<◌, ◌≤◌, ◌+◌, ℕ, zero, suc, List, [], ◌∷◌, ◌++◌, map, length, Bool, true, false, if◌then◌else◌, true≢false, Some, sym, ◌∙◌, subst, ap, refl, arith, ◌⊎◌, inl, inr}
 use Rattle.std.specs.Prelude.{ℤ, slice_get}
 use Rattle.std.proofs.lemmas.Bool.{false≢true, cases_order}
 use Rattle.net_defs.specs.declared.place.Answer.TheVariants.{Switch}
 use Rattle.journal_defs.specs.declared.entry.Entry.{Entry}
-use Rattle.journal_defs.specs.Tree.{Node, IsSwitchNode, IsJournal, answered, nodes}
+use Rattle.journal_defs.specs.Tree.{Node, IsSwitchNode, IsJournal, answered, is_found, nodes, reached}
 use Rattle.journal_defs.specs.Tree.Node.{Reached}
 use Rattle.journal_defs.specs.Growth.{HasExpanded, crossed}
 use Rattle.port_align.specs.declared.frame.ClassFrame.{ClassFrame}
@@ -58,17 +58,19 @@ slice-map (x ∷ j) (suc i) e f = slice-map j i e f
 pub entry-answered : (j : List Entry) (i : ℕ) (e : Entry) → IsJournal j → slice_get j i ≡ Some e → answered j e.walk ≡ Some e.answer
 entry-answered j i e once there = answered-at j e.walk i e once (slice-map j i e there) there
 
-not-false : (b : Bool) → not b ≡ true → b ≡ false
-not-false true e = absurd (false≢true e)
-not-false false e = refl
+-- a node keeps its number as the journal grows
+reached-kept : (j l : List Entry) (n : ℕ) (u : Node) → slice_get (reached j) n ≡ Some u → slice_get (reached (j ++ l)) n ≡ Some u
+reached-kept [] l n u e = cc
+reached-kept (x ∷ j) l n u e = by (is_found x.answer) n e (λ k f. reached-kept j l k u f)
+  where
+    by : (b : Bool) (n : ℕ) → slice_get (if b then Reached x.walk ∷ reached j else reached j) n ≡ Some u → ((k : ℕ) → slice_get (reached j) k ≡ Some u → slice_get (reached (j ++ l)) k ≡ Some u) → slice_get (if b then Reached x.walk ∷ reached (j ++ l) else reached (j ++ l)) n ≡ Some u
+    by true zero e rest = e
+    by true (suc n) e rest = rest n e
+    by false n e rest = rest n e
 
-not-true : (b : Bool) → not b ≡ false → b ≡ true
-not-true true e = refl
-not-true false e = absurd (true≢false e)
-
--- and that is what the program says
-pub tells-not : (c : ClassTable) (e : Entry) (depth : ℕ) (marked : Bool) → e.answer ≡ Switch → crossed e.walk < depth → TellsExpanded c e.walk marked → TellsOpen c e depth (not marked)
-tells-not c e depth marked switch near t = tells-switch c e depth marked switch near t (not marked) (not-false marked) (not-true marked)
+pub number-kept : (j l : List Entry) (n : ℕ) (u : Node) → slice_get (nodes j) n ≡ Some u → slice_get (nodes (j ++ l)) n ≡ Some u
+number-kept j l zero u e = e
+number-kept j l (suc n) u e = reached-kept j l n u e
 
 -- the first place that says so is the next
 pub open-found : (host depth : ℕ) (j l : List Entry) (c : ClassTable) (from place : ℕ) (told : Bool) → StandsFor host j c → IsJournal j → l ≡ j → TellsOpenAt c l place depth told → told ≡ true → from ≤ place → AreExpanded host depth j from place → IsNextOpen host depth j from place

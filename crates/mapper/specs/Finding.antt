@@ -32,3 +32,9 @@ pub record TellsOpenAt (c : ClassTable) (j : List Entry) (place depth : ℕ) (to
   pub entry : Entry
   pub there : slice_get j place ≡ Some entry
   pub tells : TellsOpen c entry depth told
+
+-- The entry at a place has the node of this number.
+pub record IsNodeAt (c : ClassTable) (j : List Entry) (place node : ℕ) : Type 0 where
+  pub entry : Entry
+  pub there : slice_get j place ≡ Some entry
+  pub is : slice_get c.nodes node ≡ Some (Reached entry.walk)

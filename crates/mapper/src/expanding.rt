@@ -1,6 +1,7 @@
 //! The 30 turns of one node.
 
-ghost use Rattle.std.specs.Prelude.{◌≡◌, ◌≤◌, All, OnOk, OnErr};
+ghost use Rattle.std.specs.Prelude.{◌≡◌, ◌≤◌, All, slice_get, Some, OnOk, OnErr};
+ghost use Rattle.journal_defs.specs.Tree.Node.{Reached};
 ghost use Rattle.net_defs.specs.Turn.{IsTurn};
 ghost use Rattle.journal_defs.specs.Growth.{IsAtRest, IsChosen};
 ghost use Rattle.mapper.specs.Growths.{HasGrown, StopsShort, IsToldOf, IsUnderWay, ExpandsOrFills};
@@ -9,14 +10,17 @@ use crate::asking::ask;
 use crate::tree::{NODE_LIMIT, Tree};
 use crate::walks::{TURNS, onward, onward_by, turn_at};
 use probe::Prober;
+use replicate_merge::Front;
 use std::alloc::{AllocError, Global};
 
-/// Asks the turns of a node in rising order, up to the answer that passes the limit of nodes.
+/// Asks the turns of a node in rising order, up to the answer that passes the limit of nodes. These are its walk and
+/// its number.
 pub(crate) fn expand<P: Prober>(
     alloc: Global,
     p: &mut P,
     tree: &mut Tree,
     front: &[i8],
+    node: u32,
 ) -> Result<(), AllocError>
     requires is_ready { P.ready p.old }
     requires mapper { tree.old.journal.host ≡ P.mapper p.old }
@@ -26,6 +30,7 @@ pub(crate) fn expand<P: Prober>(
     requires rest { IsAtRest tree.old.journal.entries }
     requires chosen { IsChosen tree.old.journal.host tree.old.depth tree.old.journal.entries front.now }
     requires turns { All IsTurn front.now }
+    requires node { slice_get tree.old.classes.nodes node ≡ Some (Reached front.now) }
     ensures grown { OnOk result (HasGrown P.State P.asked (P.fabric p.old) tree.old (P.state p.old)
         (P.lost p.old) tree.new (P.state p.new) (P.lost p.new)) }
     ensures expanded { OnOk result (ExpandsOrFills tree.new front.now) }
@@ -39,8 +44,9 @@ pub(crate) fn expand<P: Prober>(
 {
     let mut next = onward(alloc, front, 0)?;
     for step in 0..TURNS {
-        let walk = onward_by(alloc, &mut next, front, turn_at(step))?;
-        ask(alloc, p, tree, walk)?;
+        let turn = turn_at(step);
+        let walk = onward_by(alloc, &mut next, front, turn)?;
+        ask(alloc, p, tree, walk, Front::Node(node, turn))?;
         if tree.nodes > NODE_LIMIT {
             return Ok(());
         }

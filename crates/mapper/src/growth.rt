@@ -14,7 +14,7 @@ use crate::sweep::expand_next;
 use crate::tree::{NODE_LIMIT, Tree};
 use crate::walks::empty_walk;
 use probe::{Journal, Prober};
-use replicate_merge::Classes;
+use replicate_merge::{Classes, Front};
 use std::alloc::{AllocError, Global};
 
 /// A journal that has grown to its depth, with its classes.
@@ -106,7 +106,8 @@ fn grow_tree<P: Prober>(alloc: Global, p: &mut P, tree: &mut Tree) -> Result<(),
 {
     start(alloc, p, tree)?;
     let mut next = 0;
-    'growing: while expand_next(alloc, p, tree, &mut next)? {}
+    let mut likely = 1;
+    'growing: while expand_next(alloc, p, tree, &mut next, &mut likely)? {}
     Ok(())
 }
 
@@ -126,5 +127,5 @@ fn start<P: Prober>(alloc: Global, p: &mut P, tree: &mut Tree) -> Result<(), All
 {
     let _host = p.host();
     let walk = empty_walk(alloc)?;
-    ask(alloc, p, tree, walk)
+    ask(alloc, p, tree, walk, Front::Mapper)
 }

@@ -2,6 +2,7 @@
 
 ghost use Rattle.std.specs.Prelude.{◌≡◌, ◌<◌, ◌≤◌, true, false, length, All, IfOk, OnOk, OnErr, Ok};
 ghost use Rattle.net_defs.specs.Turn.{IsTurn};
+ghost use Rattle.mapper.specs.Finding.{IsNodeAt};
 ghost use Rattle.mapper.specs.Growths.{HasGrown, StopsShort, IsToldOf, IsNextOpen, IsSwept, IsWhole, IsWalkAt};
 
 use crate::expanding::expand;
@@ -11,11 +12,13 @@ use probe::Prober;
 use std::alloc::{AllocError, Global};
 
 /// Expands the next node that is to be expanded; false where there is none, or where the limit of nodes was passed.
+/// `next` is the place from which one is looked for, and `likely` the number that the node there is likely to have.
 pub(crate) fn expand_next<P: Prober>(
     alloc: Global,
     p: &mut P,
     tree: &mut Tree,
     next: &mut usize,
+    likely: &mut u32,
 ) -> Result<bool, AllocError>
     requires is_ready { P.ready p.old }
     requires mapper { tree.old.journal.host ≡ P.mapper p.old }
@@ -35,8 +38,8 @@ pub(crate) fn expand_next<P: Prober>(
     ensures same_mapper { P.mapper p.new ≡ P.mapper p.old }
     ensures stays_ready { OnOk result (P.ready p.new) }
 {
-    match next_open(&tree.classes, &tree.journal, *next, tree.depth) {
-        Some(place) => expand_at(alloc, p, tree, next, place),
+    match next_open(&tree.classes, &tree.journal, *next, tree.depth, likely) {
+        Some((place, node)) => expand_at(alloc, p, tree, next, likely, place, node),
         None => Ok(false),
     }
 }
@@ -47,7 +50,9 @@ fn expand_at<P: Prober>(
     p: &mut P,
     tree: &mut Tree,
     next: &mut usize,
+    likely: &mut u32,
     place: usize,
+    node: u32,
 ) -> Result<bool, AllocError>
     requires is_ready { P.ready p.old }
     requires mapper { tree.old.journal.host ≡ P.mapper p.old }
@@ -55,6 +60,7 @@ fn expand_at<P: Prober>(
     requires told { IsToldOf (P.fabric p.old) (P.mapper p.old) tree.old.journal.entries }
     requires settled { IsSwept tree.old next.old }
     requires is_next { IsNextOpen tree.old.journal.host tree.old.depth tree.old.journal.entries next.old place }
+    requires node { IsNodeAt tree.old.classes tree.old.journal.entries place node }
     ensures grown { OnOk result (HasGrown P.State P.asked (P.fabric p.old) tree.old (P.state p.old)
         (P.lost p.old) tree.new (P.state p.new) (P.lost p.new)) }
     ensures goes_on { result ≡ Ok true → IsSwept tree.new next.new }
@@ -69,8 +75,9 @@ fn expand_at<P: Prober>(
     ensures stays_ready { OnOk result (P.ready p.new) }
 {
     let front = turns_at(alloc, tree, place)?;
-    expand(alloc, p, tree, &front)?;
+    expand(alloc, p, tree, &front, node)?;
     *next = place + 1;
+    *likely = likely.saturating_add(1);
     Ok(tree.nodes <= NODE_LIMIT)
 }
 

@@ -9,6 +9,7 @@ ghost use Rattle.replicate_merge.specs.Table.{IsTrueOfOne};
 ghost use Rattle.replicate_merge.specs.AtOnce.{HasAllWays, HasOwnNodes, HasOwnWays, IsHostAlone};
 
 use crate::Joined;
+use crate::fronts::front_of;
 use crate::starting::lone_host;
 use crate::ways::{TURNS, is_found, own_ways};
 use probe::{Journal, WalkIndex};
@@ -114,7 +115,7 @@ fn add_ways_at(
         e.walk.turns(),
         e.answer,
         (place + 1) as u32,
-        0,
+        front_of(walks, e.walk.turns(), 0),
     )?;
     joined.reserve(ways.len())?;
     joined.add_ways(walks, &ways);

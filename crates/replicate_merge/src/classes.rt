@@ -14,7 +14,7 @@ ghost use Rattle.replicate_merge.specs.Between.{turns_of, with_orphan};
 ghost use Rattle.replicate_merge.specs.Merged.{without_tables};
 
 use crate::at_once::joined_at_once;
-use crate::fronts::{Front, front_of};
+use crate::fronts::{Front, find_near, front_of};
 use crate::journals::{count_turns, found_walks, orphans_of};
 use crate::merged::Merged;
 use crate::pushing::{asked_behind, ways_added};
@@ -111,7 +111,20 @@ impl Classes {
         ensures pushed { OnOk result (StandsForNext self.old e.now self.new) }
         ensures unchanged { OnErr result (self.new ≡ self.old) }
     {
-        let front = front_of(&self.walks, e.walk.turns(), self.front);
+        let front = self.front_of(e);
+        self.push_at(alloc, e, front)
+    }
+
+    /// The same, where it is known what stands in front of the entry's walk: no walk is looked for.
+    pub fn push_at(&mut self, alloc: Global, e: &Entry, front: Front) -> Result<(), AllocError>
+        requires next { HasNext self.old e.now }
+        requires front { IsFrontOf self.old.nodes e.now.walk front }
+        ensures pushed { OnOk result (StandsForNext self.old e.now self.new) }
+        ensures unchanged { OnErr result (self.new ≡ self.old) }
+    {
+        // That the turns of a walk are from -15 to 15, and what the tables keep, is known where they are read.
+        let _turns = e.walk.turns();
+        let _ahead = self.ahead;
         self.add_entry(alloc, e, front)?;
         match front {
             Front::Mapper => {}
@@ -119,6 +132,13 @@ impl Classes {
             Front::Missing => self.look_ahead(),
         }
         Ok(())
+    }
+
+    // What stands in front of an entry's walk.
+    fn front_of(&self, e: &Entry) -> Front
+        ensures { IsFrontOf self.now.nodes e.now.walk result }
+    {
+        front_of(&self.walks, e.walk.turns(), self.front)
     }
 
     // Adds the node that an entry found. Where it found nothing and no node is in front of it, its walk is kept.
@@ -130,7 +150,7 @@ impl Classes {
         ensures unchanged { OnErr result (self.new ≡ self.old) }
     {
         if is_found(e.answer) {
-            return self.push_node(alloc, e);
+            return self.push_node(alloc, e, front);
         }
         match front {
             Front::Missing => self.push_orphan(alloc, e.walk.turns()),
@@ -140,8 +160,9 @@ impl Classes {
     }
 
     // Adds the node that an entry found. All memory is taken before the first change.
-    fn push_node(&mut self, alloc: Global, e: &Entry) -> Result<(), AllocError>
+    fn push_node(&mut self, alloc: Global, e: &Entry, front: Front) -> Result<(), AllocError>
         requires next { HasNext self.old e.now }
+        requires front { IsFrontOf self.old.nodes e.now.walk front }
         requires found { is_found e.now.answer ≡ true }
         ensures adds { OnOk result (AddsEntry self.old e.now self.new) }
         ensures unchanged { OnErr result (self.new ≡ self.old) }
@@ -154,7 +175,7 @@ impl Classes {
             self.ahead,
             walk,
             e.answer,
-            self.front,
+            front,
         )?;
         let asked = asked_behind(alloc, &self.walks, &self.orphans, self.ahead, walk)?;
         take_room(&mut self.joined, &mut self.asked, self.ways.len())?;
@@ -203,6 +224,17 @@ impl Classes {
         ensures missing { result ≡ None → (n : ℕ) → slice_get self.now.nodes n ≢ Some (Reached w.now) }
     {
         match self.walks.find(w.turns()) {
+            Some(at) => Some((at + 1) as u32),
+            None => None,
+        }
+    }
+
+    /// The number of the node of a walk, as `node_of` gives it. A number that it is likely to have is looked at first.
+    pub fn node_near(&self, w: &Walk, likely: u32) -> Option<u32>
+        ensures found { IfSome result (λ n. slice_get self.now.nodes n ≡ Some (Reached w.now)) }
+        ensures missing { result ≡ None → (n : ℕ) → slice_get self.now.nodes n ≢ Some (Reached w.now) }
+    {
+        match find_near(&self.walks, w.turns(), likely.saturating_sub(1)) {
             Some(at) => Some((at + 1) as u32),
             None => None,
         }

@@ -5,11 +5,12 @@ ghost use Rattle.probe.specs.Keeping.{has_walk};
 ghost use Rattle.replicate_merge.specs.Between.{IsFrontOf};
 ghost use Rattle.replicate_merge.specs.Nodes.{nodes_of};
 
+use net_defs::Answer;
 use probe::WalkIndex;
 
 /// What stands in front of a walk's last turn.
 #[derive(Clone, Copy, Debug)]
-pub(crate) enum Front {
+pub enum Front {
     /// The walk has no turn: the mapper's host is in front of it.
     Mapper,
     /// A node, and the turn by which the walk leaves it.
@@ -35,7 +36,7 @@ pub(crate) fn front_of(walks: &WalkIndex, walk: &[i8], likely: u32) -> Front
 
 /// The place of a walk, counted from 0; none where it isn't there. A place where it is likely to stand is looked at
 /// first.
-pub(crate) fn find_near(walks: &WalkIndex, turns: &[i8], likely: u32) -> Option<usize>
+pub fn find_near(walks: &WalkIndex, turns: &[i8], likely: u32) -> Option<usize>
     ensures place { IfSome result (λ at. slice_get walks.now at ≡ Some turns.now) }
     ensures found { is_some result ≡ has_walk walks.now turns.now }
 {
@@ -51,4 +52,12 @@ fn is_at(walks: &WalkIndex, turns: &[i8], at: usize) -> bool
     ensures { result ≡ true → slice_get walks.now at ≡ Some turns.now }
 {
     at < walks.len() && walks.walk(at) == turns
+}
+
+/// The number that the next node is likely to have, after an answer to which one had this number.
+pub fn number_after(likely: u32, answer: Answer) -> u32 {
+    match answer {
+        Answer::Host(_) | Answer::Switch => likely.saturating_add(1),
+        Answer::Nothing => likely,
+    }
 }

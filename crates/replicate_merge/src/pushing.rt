@@ -6,8 +6,10 @@ ghost use Rattle.journal_defs.specs.Walks.{onward_turns};
 ghost use Rattle.replicate_merge.specs.Nodes.{nodes_of};
 ghost use Rattle.replicate_merge.specs.Onward.{AddsBelow, AreNewWays, AreOnce, is_known, known_among};
 ghost use Rattle.replicate_merge.specs.Behind.{AddsBehind};
+ghost use Rattle.replicate_merge.specs.Between.{IsFrontOf};
 
 use crate::Way;
+use crate::fronts::Front;
 use crate::ways::{own_ways, push_both};
 use net_defs::Answer;
 use probe::WalkIndex;
@@ -28,15 +30,16 @@ pub(crate) fn ways_added(
     ahead: bool,
     walk: &[i8],
     answer: Answer,
-    likely: u32,
+    front: Front,
 ) -> Result<(), AllocError>
     requires few { length walks.now + 1 < 2 ^ 32 }
     requires once { AreOnce (nodes_of walks.now) }
+    requires front { IsFrontOf (nodes_of walks.now) walk.now front }
     ensures { OnOk result (AreNewWays (nodes_of walks.now) (record { walk = walk.now; answer = answer })
         (length walks.now + 1) ahead ways.new.items) }
 {
     let node = (walks.len() + 1) as u32;
-    own_ways(ways, walks, walk, answer, node, likely)?;
+    own_ways(ways, walks, walk, answer, node, front)?;
     if !ahead {
         return Ok(());
     }

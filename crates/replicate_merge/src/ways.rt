@@ -6,9 +6,10 @@ ghost use Rattle.replicate_merge.specs.Nodes.{nodes_of};
 ghost use Rattle.replicate_merge.specs.Cables.{host_ways, both_ways, AddsCables};
 ghost use Rattle.replicate_merge.specs.Onward.{AreOnce};
 ghost use Rattle.replicate_merge.specs.Own.{AreOwnWays};
+ghost use Rattle.replicate_merge.specs.Between.{IsFrontOf};
 
 use crate::Way;
-use crate::fronts::find_near;
+use crate::fronts::Front;
 use net_defs::Answer;
 use probe::WalkIndex;
 use std::alloc::{AllocError, Global};
@@ -27,23 +28,24 @@ pub(crate) fn is_found(answer: Answer) -> bool
 }
 
 /// Puts the ways that an entry shows by itself in the place of others: of the host at its node, and between its node
-/// and the one in front, whose walk is looked for first at a place where it is likely to stand.
+/// and what stands in front of its walk.
 pub(crate) fn own_ways(
     ways: &mut Vec<Way>,
     walks: &WalkIndex,
     walk: &[i8],
     answer: Answer,
     node: u32,
-    likely: u32,
+    front: Front,
 ) -> Result<(), AllocError>
     requires few { length walks.now + 1 < 2 ^ 32 }
     requires once { AreOnce (nodes_of walks.now) }
+    requires front { IsFrontOf (nodes_of walks.now) walk.now front }
     ensures { OnOk result (AreOwnWays (nodes_of walks.now) (record { walk = walk.now; answer = answer }) node
         ways.new.items) }
 {
     ways.clear();
     push_host(ways, Some(answer), node)?;
-    push_cables(ways, walks, walk, node, likely)?;
+    push_cables(ways, walks, walk, node, front)?;
     Ok(())
 }
 
@@ -60,20 +62,18 @@ fn push_host(ways: &mut Vec<Way>, answer: Option<Answer>, node: u32) -> Result<(
 // Adds the ways between a node and the one in front of it, where that is there.
 fn push_cables(
     ways: &mut Vec<Way>,
-    walks: &WalkIndex,
-    walk: &[i8],
+    _walks: &WalkIndex,
+    _walk: &[i8],
     node: u32,
-    likely: u32,
+    front: Front,
 ) -> Result<(), AllocError>
-    requires { length walks.now + 1 < 2 ^ 32 }
-    ensures { OnOk result (AddsCables walks.now walk.now node ways.old.items ways.new.items) }
+    requires { IsFrontOf (nodes_of _walks.now) _walk.now front }
+    ensures { OnOk result (AddsCables _walks.now _walk.now node ways.old.items ways.new.items) }
 {
-    let Some((turn, front)) = walk.split_last() else {
-        return push_both(ways, 0, 0, node);
-    };
-    match find_near(walks, front, likely) {
-        Some(at) => push_both(ways, (at + 1) as u32, *turn, node),
-        None => Ok(()),
+    match front {
+        Front::Mapper => push_both(ways, 0, 0, node),
+        Front::Node(from, turn) => push_both(ways, from, turn, node),
+        Front::Missing => Ok(()),
     }
 }
 

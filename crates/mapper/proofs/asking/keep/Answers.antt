@@ -9,9 +9,9 @@ pub returns : goal.returns
 returns c =
     let t : Tree = c.args.tree.now in
     let e : Entry = record { walk = c.args.walk; answer = c.args.answer } in
-    let classes = c.push.new.self in
+    let classes = c.push_at.new.self in
     let after : c.push_new.new.self ≡ with_entry t.journal e = c.in_ok-push_new.ensures.ok in
-    let next = c.in_ok-push.ensures.pushed t.journal.host t.journal.entries c.requires.next.stands c.requires.next.next in
+    let next = c.in_ok-push_at.ensures.pushed t.journal.host t.journal.entries c.requires.next.stands c.requires.next.next in
     record {
       kept = λ i. record t { journal = after i; classes = classes; nodes = t.nodes + c.node_count.ensures i };
       stands = subst (λ (s : JournalState). StandsFor s.host s.entries classes) (sym after) next;

@@ -1,6 +1,8 @@
-use Rattle.std.proofs.Common.{List, sym, subst, arith}
-use Rattle.std.specs.Prelude.{ℤ, All}
+use Rattle.std.proofs.Common.{◌≡◌, List, Some, ap, sym, ◌∙◌, subst, arith}
+use Rattle.std.specs.Prelude.{ℤ, All, slice_get}
 use Rattle.net_defs.specs.Turn.{IsTurn}
+use Rattle.journal_defs.specs.declared.entry.Entry.{Entry}
+use Rattle.journal_defs.specs.Tree.Node.{Reached}
 use Rattle.journal_defs.specs.Growth.{IsChosen}
 use Rattle.mapper.specs.Growths.{ExpandsOrFills}
 use Rattle.mapper.proofs.Adding.{stops-still, on-err}
@@ -29,6 +31,15 @@ expand-requires-clause-chosen g c =
 
 pub expand-requires-clause-turns : goal.expand-requires-clause-turns
 expand-requires-clause-turns g c = subst (λ (ts : List ℤ). All IsTurn ts) (sym c.deref.ensures.value) c.in_ok-front.ensures.in_range
+
+pub expand-requires-clause-node : goal.expand-requires-clause-node
+expand-requires-clause-node g c =
+    let t = c.args.tree.now in
+    let w = c.in_ok-front.ensures.there in
+    let node = c.requires.node in
+    let both : Some node.entry ≡ Some w.entry = sym node.there ∙ w.there in
+    let one : node.entry ≡ w.entry = cc in
+    subst (λ (ts : List ℤ). slice_get t.classes.nodes c.args.node ≡ Some (Reached ts)) (ap (λ (e : Entry). e.walk) one ∙ w.walk ∙ sym c.deref.ensures.value) node.is
 
 pub returns-in_err-expand-clause-stopped : goal.returns-in_err-expand-clause-stopped
 returns-in_err-expand-clause-stopped g c = on-err c.from_residual-in_err-expand.result c.in_err-expand.ensures.stopped

@@ -1,5 +1,7 @@
+use Rattle.std.proofs.Common.{ℕ}
 use Rattle.mapper.proofs.Adding.{grown-none, found-some}
 use Rattle.mapper.proofs.Sweeping.{settled-whole}
+use Rattle.mapper.specs.Finding.{IsNodeAt}
 use Rattle.mapper.specs.Growths.{IsNextOpen}
 use Rattle.mapper.proofs.sweep.expand_next.Goals as goal
 
@@ -9,7 +11,12 @@ next_open-requires g c = c.requires.settled.under_way.stands
 pub expand_at-requires-clause-is_next : goal.expand_at-requires-clause-is_next
 expand_at-requires-clause-is_next g c =
     let t = c.args.tree.now in
-    found-some (λ place. IsNextOpen t.journal.host t.depth t.journal.entries c.args.next.now place) c.next_open.result c.in-Some.place c.in-Some.is c.next_open.ensures.found
+    found-some (λ (o : ℕ × ℕ). IsNextOpen t.journal.host t.depth t.journal.entries c.args.next.now o.0) c.next_open.result (c.in-Some.place, c.in-Some.node) c.in-Some.is c.next_open.ensures.found
+
+pub expand_at-requires-clause-node : goal.expand_at-requires-clause-node
+expand_at-requires-clause-node g c =
+    let t = c.args.tree.now in
+    found-some (λ (o : ℕ × ℕ). IsNodeAt t.classes t.journal.entries o.0 o.1) c.next_open.result (c.in-Some.place, c.in-Some.node) c.in-Some.is c.next_open.ensures.node
 
 pub returns-in-None-clause-grown : goal.returns-in-None-clause-grown
 returns-in-None-clause-grown g c =

@@ -2,6 +2,7 @@ use Rattle.std.proofs.Common.{◌≡◌, ◌+◌, List, Some, false, ap, sym, �
 use Rattle.std.specs.Prelude.{slice_get}
 use Rattle.std.proofs.lemmas.Option.{slice_get_within}
 use Rattle.probe.specs.Keeping.{has_walk}
+use Rattle.replicate_merge.specs.Between.{IsFrontOf}
 use Rattle.replicate_merge.specs.Nodes.{nodes_of}
 use Rattle.replicate_merge.specs.Steps.{AddsWays, MayAddWays}
 use Rattle.replicate_merge.specs.declared.way.Way.{Way}
@@ -46,6 +47,15 @@ own_ways-requires-clause-few c =
 
 pub own_ways-requires-clause-once : goal.own_ways-requires-clause-once
 own_ways-requires-clause-once c = once-of c.args.j.now.entries (nodes_of c.args.walks.now) c.requires.nodes c.entries.ensures.once
+
+pub front_of-requires : goal.front_of-requires
+front_of-requires c =
+    let walks = few-walks c.args.j.now.entries c.args.walks.now c.requires.nodes in
+    let few = c.requires.few in
+    omega arith
+
+pub own_ways-requires-clause-front : goal.own_ways-requires-clause-front
+own_ways-requires-clause-front c = subst (λ w. IsFrontOf (nodes_of c.args.walks.now) w c.front_of.result) (c.turns-3.ensures.value ∙ sym c.turns-2.ensures.value) c.front_of.ensures
 
 pub reserve-requires-clause-few : goal.reserve-requires-clause-few
 reserve-requires-clause-few c =

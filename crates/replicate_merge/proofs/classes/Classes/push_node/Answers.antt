@@ -1,5 +1,8 @@
 use Rattle.std.proofs.Common.{◌≡◌, ◌++◌, ◌∷◌, [], ℕ, List, length, nat_eq, refl, ap, sym, ◌∙◌, subst, arith, length-append}
+use Rattle.journal_defs.specs.Tree.{Node}
+use Rattle.replicate_merge.specs.Between.{IsFrontOf}
 use Rattle.replicate_merge.specs.Nodes.{nodes_of}
+use Rattle.replicate_merge.specs.Table.{ClassTable}
 use Rattle.probe.specs.Keeping.{has_walk}
 use Rattle.replicate_merge.specs.declared.way.Way.{Way}
 use Rattle.replicate_merge.specs.Growing.{Grows, MayGrow}
@@ -18,6 +21,13 @@ pub ways_added-requires-clause-once : goal.ways_added-requires-clause-once
 ways_added-requires-clause-once c =
     let s = c.self.inside in
     once-in c.args.self.now c.args.e.now s.walks s.joined s.asked.items s.orphans s.ahead c.self.view_is c.requires.next
+
+pub ways_added-requires-clause-front : goal.ways_added-requires-clause-front
+ways_added-requires-clause-front c =
+    let walks = c.self.inside.walks in
+    let front = c.args.front in
+    subst (λ w. IsFrontOf (nodes_of walks) w front) (sym c.turns-walk.ensures.value)
+    (subst (λ (l : List Node). IsFrontOf l c.args.e.now.walk front) (sym (ap (λ (t : ClassTable). t.nodes) c.self.view_is)) c.requires.front)
 
 pub take_room-requires-clause-few : goal.take_room-requires-clause-few
 take_room-requires-clause-few c =
