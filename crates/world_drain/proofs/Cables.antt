@@ -1,10 +1,10 @@
 -- What events in a row do to the cables, all of them or a prefix: those of drains, clears and give-ups leave them, and
 -- those of settles pull at most.
-use Rattle.std.proofs.Common.{◌≡◌, ℕ, ◌+◌, false, List, [], ◌∷◌, ◌++◌, map, refl, sym, ◌∙◌, ap, subst, arith}
+use Rattle.std.proofs.Common.{◌≡◌, ◌+◌, false, List, [], ◌∷◌, ◌++◌, map, refl, sym, ◌∙◌, ap, subst, arith}
 use Rattle.std.specs.Prelude.{Some, Result, Ok, Err, OnOk, OnErr, length}
 use Rattle.std.specs.List.{AllByRecursion}
 use Rattle.world_defs.specs.History.{CableHistory}
-use Rattle.world_defs.specs.Crossed.{life_channels, pulled_at}
+use Rattle.world_defs.specs.Crossed.{life_channels}
 use Rattle.world_defs.specs.Later.{OnlyPulled}
 use Rattle.world_defs.proofs.CablesKept.{length-set-wire}
 use Rattle.world_defs.proofs.CablesLater.{PullAt, pull_at-view}

@@ -215,6 +215,7 @@ module _ (s : LinkState) (c next count : ℕ) (m m' p n : List ℕ) (a : AreAwak
       let ln = length-set n next (count + 1) in
       record {
         marked = omega (arith, a.rows.marked, wrote.size);
+        short = omega (arith, a.rows.short, wrote.size);
         listed = omega (arith, a.rows.listed, ln);
         rows = omega (arith, a.rows.rows, lp, ln);
         few = λ g. few-here g (cases_eq g next);
@@ -268,6 +269,7 @@ module _ (s : LinkState) (c next count : ℕ) (m m' p n : List ℕ) (a : AreAwak
 rows-written : (n k b : ℕ) (m m' p q : List ℕ) → HasRows n m p q → IsWritten m m' k b → HasRows n m' p q
 rows-written n k b m m' p q r wrote = record {
   marked = omega (arith, r.marked, wrote.size);
+  short = omega (arith, r.short, wrote.size);
   listed = r.listed;
   rows = r.rows;
   few = r.few;
@@ -298,6 +300,7 @@ pub woken : (s : LinkState) (c count : ℕ) (m m' p n n' : List ℕ) → AreAwak
 woken s c count m m' p n n' a there is size kept marked made = record {
   rows = record {
     marked = omega (arith, a.rows.marked, size);
+    short = omega (arith, a.rows.short, size);
     listed = omega (arith, a.rows.listed, long);
     rows = omega (arith, a.rows.rows, long);
     few = λ g. few g (cases_eq g c);
@@ -392,10 +395,10 @@ step-behind w v c x h m p n long a is told = gone-behind w.links v.links c h m p
 
 -- of a note, where there is one
 pub step-noted : (w v : WorldState) (c : ℕ) (x : Effect) (h : Hop) (o : Option Awake) → length w.links.channels ≡ life_channels w.links.cables
-    → IfSome o (λ a. AreAwake w.links a.marks a.places.items a.counts.items) → step w (Advance c) ≡ (x, v) → hop_of x ≡ h
-    → IfSome o (λ a. AreAwakeBehind h v.links c a.marks a.places.items a.counts.items)
+    → IfSome o (λ a. AreAwake w.links a.marks.items a.places.items a.counts.items) → step w (Advance c) ≡ (x, v) → hop_of x ≡ h
+    → IfSome o (λ a. AreAwakeBehind h v.links c a.marks.items a.places.items a.counts.items)
 step-noted w v c x h None long a is told = tt
-step-noted w v c x h (Some a) long awake is told = step-behind w v c x h a.marks a.places.items a.counts.items long awake is told
+step-noted w v c x h (Some a) long awake is told = step-behind w v c x h a.marks.items a.places.items a.counts.items long awake is told
 
 -- the next full channel is the next whose advance may change something
 pub full-awake : (w : WorldState) (from : ℕ) (o : Option ℕ) → IfSome o (IsNextFull w.links from) → IfSome o (IsNextAwake w from)

@@ -1,6 +1,6 @@
 -- Channels that are awake, and those that sleep: their packet waits for another channel, and an advance would change
 -- nothing.
-use Rattle.std.specs.Prelude.{◌≡◌, ◌≢◌, ◌⊎◌, ℕ, ◌+◌, ◌*◌, ◌<◌, ◌≤◌, List, length, slice_index_or, None, Some}
+use Rattle.std.specs.Prelude.{◌≡◌, ◌≢◌, ◌⊎◌, ℕ, ◌+◌, ◌*◌, ◌^◌, ◌<◌, ◌≤◌, List, length, slice_index_or, None, Some}
 use Rattle.std.specs.Prelude.{is_some, true, false}
 use Rattle.world_defs.specs.declared.moved.Course.TheVariants.{Enters}
 use Rattle.world_defs.specs.Links.{Held, LinkState, packet_in}
@@ -36,6 +36,7 @@ Sleeps s places counts c = (packet_in s c ≡ None) ⊎ ((next : ℕ) × WaitsFo
 -- There is a mark and a row for each channel; no row uses more than its places, and what stands in them has a mark.
 pub record HasRows (channels : ℕ) (marks places counts : List ℕ) : Type 0 where
   pub marked : channels ≤ 64 * length marks
+  pub short : length marks ≤ 2 ^ 32
   pub listed : channels ≤ length counts
   pub rows : length places ≡ 16 * length counts
   pub few : (c : ℕ) → slice_index_or counts c 0 ≤ 16

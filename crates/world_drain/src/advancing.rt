@@ -43,7 +43,7 @@ fn all_passes(
     watch: &Watch,
     noted: &mut Option<Awake>,
 ) -> Result<Seen, AllocError>
-    requires { IfSome noted.old (λ a. AreAwake w.old.links a.marks a.places.items a.counts.items) }
+    requires { IfSome noted.old (λ a. AreAwake w.old.links a.marks.items a.places.items a.counts.items) }
     ensures seen { IfOk result (λ s. s ≡ seen_in watch.now (log.drain w.old).value) }
     ensures few { IfOk result (λ s. s.changes ≤ 9068544) }
     ensures after { OnOk result (w.new ≡ (log.drain w.old).world) }
@@ -64,8 +64,8 @@ fn all_passes(
 
 // After a pass with so many changes, channels that wait are noted from now on, if they are many.
 fn note(alloc: Global, w: &World, noted: &mut Option<Awake>, changes: u64) -> Result<(), AllocError>
-    requires { IfSome noted.old (λ a. AreAwake w.now.links a.marks a.places.items a.counts.items) }
-    ensures { OnOk result (IfSome noted.new (λ a. AreAwake w.now.links a.marks a.places.items a.counts.items)) }
+    requires { IfSome noted.old (λ a. AreAwake w.now.links a.marks.items a.places.items a.counts.items) }
+    ensures { OnOk result (IfSome noted.new (λ a. AreAwake w.now.links a.marks.items a.places.items a.counts.items)) }
 {
     if changes >= MANY && noted.is_none() {
         *noted = Some(Awake::new(alloc, w)?);
@@ -75,7 +75,7 @@ fn note(alloc: Global, w: &World, noted: &mut Option<Awake>, changes: u64) -> Re
 
 // The least channel that isn't below a number and may go on.
 fn next(w: &World, noted: &Option<Awake>, from: u16) -> Option<u16>
-    requires { IfSome noted.now (λ a. AreAwake w.now.links a.marks a.places.items a.counts.items) }
+    requires { IfSome noted.now (λ a. AreAwake w.now.links a.marks.items a.places.items a.counts.items) }
     ensures found { IfSome result (IsNextAwake w.now from) }
     ensures none { IfNone result ((c : ℕ) → from ≤ c → IsStill w.now c) }
 {
@@ -88,9 +88,9 @@ fn next(w: &World, noted: &Option<Awake>, from: u16) -> Option<u16>
 // The note follows an advance of a channel, of which a hop says where its packet is now.
 fn follow(w: &World, noted: &mut Option<Awake>, c: u16, hop: Hop)
     requires awake { IfSome noted.old (λ a.
-        AreAwakeBehind hop w.now.links c a.marks a.places.items a.counts.items) }
+        AreAwakeBehind hop w.now.links c a.marks.items a.places.items a.counts.items) }
     requires there { c < length w.now.links.channels }
-    ensures { IfSome noted.new (λ a. AreAwake w.now.links a.marks a.places.items a.counts.items) }
+    ensures { IfSome noted.new (λ a. AreAwake w.now.links a.marks.items a.places.items a.counts.items) }
 {
     match noted {
         Some(awake) => awake.after(w, c, hop),
@@ -105,10 +105,11 @@ fn pass(
     watch: &Watch,
     noted: &mut Option<Awake>,
 ) -> Result<Seen, AllocError>
-    requires { IfSome noted.old (λ a. AreAwake w.old.links a.marks a.places.items a.counts.items) }
+    requires { IfSome noted.old (λ a. AreAwake w.old.links a.marks.items a.places.items a.counts.items) }
     ensures seen { IfOk result (λ s. s ≡ seen_in watch.now (log.pass w.old).value) }
     ensures after { OnOk result (w.new ≡ (log.pass w.old).world) }
-    ensures awake { OnOk result (IfSome noted.new (λ a. AreAwake w.new.links a.marks a.places.items a.counts.items)) }
+    ensures awake { OnOk result (IfSome noted.new (λ a.
+        AreAwake w.new.links a.marks.items a.places.items a.counts.items)) }
     ensures err { OnErr result (IsPartWay w.old (map Advance (channels_of w.old)) w.new) }
 {
     let _few = w.channels();
@@ -134,10 +135,11 @@ fn advance(
 ) -> Result<Seen, AllocError>
     requires there { c < length w.old.links.channels }
     requires few { seen.changes + 1 < 2 ^ 64 }
-    requires awake { IfSome noted.old (λ a. AreAwake w.old.links a.marks a.places.items a.counts.items) }
+    requires awake { IfSome noted.old (λ a. AreAwake w.old.links a.marks.items a.places.items a.counts.items) }
     ensures seen { IfOk result (λ s. s ≡ seen_then seen (seen_in watch.now ((step w.old (Advance c)).0 ∷ []))) }
     ensures after { OnOk result (w.new ≡ (step w.old (Advance c)).1) }
-    ensures awake { OnOk result (IfSome noted.new (λ a. AreAwake w.new.links a.marks a.places.items a.counts.items)) }
+    ensures awake { OnOk result (IfSome noted.new (λ a.
+        AreAwake w.new.links a.marks.items a.places.items a.counts.items)) }
     ensures err { OnErr result (w.new ≡ w.old) }
 {
     let _few = w.channels();
@@ -166,10 +168,11 @@ fn leave(
     c: u16,
 ) -> Result<Seen, AllocError>
     requires there { c < length w.old.links.channels }
-    requires awake { IfSome noted.old (λ a. AreAwake w.old.links a.marks a.places.items a.counts.items) }
+    requires awake { IfSome noted.old (λ a. AreAwake w.old.links a.marks.items a.places.items a.counts.items) }
     ensures seen { IfOk result (λ s. s ≡ seen_in watch.now ((step w.old (Advance c)).0 ∷ [])) }
     ensures after { OnOk result (w.new ≡ (step w.old (Advance c)).1) }
-    ensures awake { OnOk result (IfSome noted.new (λ a. AreAwake w.new.links a.marks a.places.items a.counts.items)) }
+    ensures awake { OnOk result (IfSome noted.new (λ a.
+        AreAwake w.new.links a.marks.items a.places.items a.counts.items)) }
     ensures err { OnErr result (w.new ≡ w.old) }
 {
     let _few = w.channels();

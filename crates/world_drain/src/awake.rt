@@ -16,7 +16,7 @@ ghost use Rattle.world_drain.specs.Awake.{AreAwake, AreAwakeBut, AreAwakeOnce, A
 ghost use Rattle.world_drain.specs.Awake.{IsStill, WaitsFor};
 
 use fab_world::{Hop, World};
-use number_marks::Marks;
+use number_marks::{bare, next_marked};
 use std::alloc::{AllocError, Global};
 
 // How many channels may wait for one. More stay awake.
@@ -25,7 +25,7 @@ const PLACES: u16 = 16;
 /// The channels that are awake, and for each channel those that wait for it.
 #[derive(Drop)]
 pub(crate) struct Awake {
-    marks: Marks,
+    marks: Vec<u64>,
     places: Vec<u16>,
     counts: Vec<u16>,
 }
@@ -33,12 +33,12 @@ pub(crate) struct Awake {
 impl Awake {
     /// Each channel that holds a packet is awake.
     pub(crate) fn new(alloc: Global, w: &World) -> Result<Awake, AllocError>
-        ensures { IfOk result (λ a. AreAwake w.now.links a.marks a.places.items a.counts.items) }
+        ensures { IfOk result (λ a. AreAwake w.now.links a.marks.items a.places.items a.counts.items) }
     {
         let channels = usize::from(w.channels());
         let places = vec![in alloc; 0; 16 * channels]?;
         let counts = vec![in alloc; 0; channels]?;
-        let mut marks = Marks::new(alloc, channels)?;
+        let mut marks = bare(alloc, channels)?;
         mark_full(w, &mut marks);
         Ok(Awake {
             marks,
@@ -49,11 +49,11 @@ impl Awake {
 
     /// The least channel that is awake and isn't below a number. An advance of one before it would change nothing.
     pub(crate) fn next(&self, w: &World, from: u16) -> Option<u16>
-        requires { AreAwake w.now.links self.now.marks self.now.places.items self.now.counts.items }
+        requires { AreAwake w.now.links self.now.marks.items self.now.places.items self.now.counts.items }
         ensures found { IfSome result (IsNextAwake w.now from) }
         ensures none { IfNone result ((c : ℕ) → from ≤ c → IsStill w.now c) }
     {
-        match self.marks.next(usize::from(from)) {
+        match next_marked(&self.marks, usize::from(from)) {
             Some(c) if c < usize::from(w.channels()) => Some(c as u16),
             _ => None,
         }
@@ -62,9 +62,10 @@ impl Awake {
     /// The marks and rows follow an advance of a channel, of which a hop says where its packet is now. One that is
     /// empty wakes those that waited for it, and the one that a packet has entered is awake.
     pub(crate) fn after(&mut self, w: &World, c: u16, hop: Hop)
-        requires awake { AreAwakeBehind hop w.now.links c self.old.marks self.old.places.items self.old.counts.items }
+        requires awake { AreAwakeBehind hop w.now.links c
+            self.old.marks.items self.old.places.items self.old.counts.items }
         requires there { c < length w.now.links.channels }
-        ensures { AreAwake w.now.links self.new.marks self.new.places.items self.new.counts.items }
+        ensures { AreAwake w.now.links self.new.marks.items self.new.places.items self.new.counts.items }
     {
         match hop {
             Hop::Moved(next) => {
@@ -82,10 +83,10 @@ impl Awake {
 
     // A channel's packet waits for another channel: it sleeps, if there is a place for it in that one's row.
     fn blocked(&mut self, w: &World, c: u16, next: u16)
-        requires awake { AreAwake w.now.links self.old.marks self.old.places.items self.old.counts.items }
+        requires awake { AreAwake w.now.links self.old.marks.items self.old.places.items self.old.counts.items }
         requires waits { WaitsFor w.now.links c next }
         requires there { c < length w.now.links.channels }
-        ensures { AreAwake w.now.links self.new.marks self.new.places.items self.new.counts.items }
+        ensures { AreAwake w.now.links self.new.marks.items self.new.places.items self.new.counts.items }
     {
         let row = usize::from(next);
         let count = number_at(&self.counts, row);
@@ -98,9 +99,9 @@ impl Awake {
 
     // Those in the row of a channel are awake.
     fn wake(&mut self, w: &World, c: u16)
-        requires awake { AreAwakeBut w.now.links c self.old.marks self.old.places.items self.old.counts.items }
+        requires awake { AreAwakeBut w.now.links c self.old.marks.items self.old.places.items self.old.counts.items }
         requires there { c < length w.now.links.channels }
-        ensures { AreAwake w.now.links self.new.marks self.new.places.items self.new.counts.items }
+        ensures { AreAwake w.now.links self.new.marks.items self.new.places.items self.new.counts.items }
     {
         let row = usize::from(c);
         let count = number_at(&self.counts, row);
@@ -115,10 +116,10 @@ impl Awake {
 }
 
 // Marks each channel that holds a packet.
-fn mark_full(w: &World, marks: &mut Marks)
-    requires { length w.now.links.channels ≤ 64 * length marks.old }
-    ensures size { length marks.new ≡ length marks.old }
-    ensures full { (c : ℕ) → mark_at marks.new c ≡ 0 → packet_in w.now.links c ≡ None }
+fn mark_full(w: &World, marks: &mut Vec<u64>)
+    requires { length w.now.links.channels ≤ 64 * length marks.old.items }
+    ensures size { length marks.new.items ≡ length marks.old.items }
+    ensures full { (c : ℕ) → mark_at marks.new.items c ≡ 0 → packet_in w.now.links c ≡ None }
 {
     let _few = w.channels();
     let mut from = 0;
@@ -129,12 +130,12 @@ fn mark_full(w: &World, marks: &mut Marks)
 }
 
 // Marks the channels that stand from one place up to another.
-fn mark_all(places: &Vec<u16>, first: usize, end: usize, marks: &mut Marks)
+fn mark_all(places: &Vec<u16>, first: usize, end: usize, marks: &mut Vec<u64>)
     requires within { end ≤ length places.now.items }
-    requires low { (i : ℕ) → slice_index_or places.now.items i 0 < 64 * length marks.old }
-    ensures size { length marks.new ≡ length marks.old }
-    ensures kept { (c : ℕ) → mark_at marks.new c ≡ 0 → mark_at marks.old c ≡ 0 }
-    ensures marked { (i : ℕ) → first ≤ i → i < end → mark_at marks.new (slice_index_or places.now.items i 0) ≡ 1 }
+    requires low { (i : ℕ) → slice_index_or places.now.items i 0 < 64 * length marks.old.items }
+    ensures size { length marks.new.items ≡ length marks.old.items }
+    ensures kept { (c : ℕ) → mark_at marks.new.items c ≡ 0 → mark_at marks.old.items c ≡ 0 }
+    ensures marked { (i : ℕ) → first ≤ i → i < end → mark_at marks.new.items (slice_index_or places.now.items i 0) ≡ 1 }
 {
     for at in first..end {
         mark(marks, number_at(places, at));
@@ -142,19 +143,19 @@ fn mark_all(places: &Vec<u16>, first: usize, end: usize, marks: &mut Marks)
 }
 
 // Marks a channel.
-fn mark(marks: &mut Marks, c: u16)
-    requires { c < 64 * length marks.old }
-    ensures { IsWritten marks.old marks.new c 1 }
+fn mark(marks: &mut Vec<u64>, c: u16)
+    requires { c < 64 * length marks.old.items }
+    ensures { IsWritten marks.old.items marks.new.items c 1 }
 {
-    marks.mark(usize::from(c));
+    number_marks::mark(marks, usize::from(c));
 }
 
 // Takes a channel's mark away.
-fn unmark(marks: &mut Marks, c: u16)
-    requires { c < 64 * length marks.old }
-    ensures { IsWritten marks.old marks.new c 0 }
+fn unmark(marks: &mut Vec<u64>, c: u16)
+    requires { c < 64 * length marks.old.items }
+    ensures { IsWritten marks.old.items marks.new.items c 0 }
 {
-    marks.unmark(usize::from(c));
+    number_marks::unmark(marks, usize::from(c));
 }
 
 // A place in the row of a channel.

@@ -8,7 +8,7 @@ use Rattle.world_drain.proofs.advancing.all_passes.Given as goal
 abbrev pub invariant-passing : goal.invariant-passing
 invariant-passing l = record {
   running : Running l.watch l.fn.w l.w l.seen;
-  noted : IfSome l.noted (λ a. AreAwake l.w.links a.marks a.places.items a.counts.items);
+  noted : IfSome l.noted (λ a. AreAwake l.w.links a.marks.items a.places.items a.counts.items);
 }
 
 abbrev pub decreases-passing : goal.decreases-passing

@@ -9,7 +9,7 @@ use Rattle.world_drain.proofs.advancing.pass.Given as goal
 abbrev pub invariant-loop-c : goal.invariant-loop-c
 invariant-loop-c l = record {
   passed : Passed l.watch l.fn.w l.w l.from l.seen;
-  noted : IfSome l.noted (λ a. AreAwake l.w.links a.marks a.places.items a.counts.items);
+  noted : IfSome l.noted (λ a. AreAwake l.w.links a.marks.items a.places.items a.counts.items);
 }
 
 abbrev pub decreases-loop-c : goal.decreases-loop-c

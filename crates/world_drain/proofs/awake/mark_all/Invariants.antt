@@ -6,7 +6,7 @@ use Rattle.world_drain.proofs.awake.mark_all.Given as goal
 
 abbrev pub invariant-loop-at : goal.invariant-loop-at
 invariant-loop-at l = record {
-  size : length l.marks ≡ length l.fn.marks;
-  kept : (c : ℕ) → mark_at l.marks c ≡ 0 → mark_at l.fn.marks c ≡ 0;
-  marked : (i : ℕ) → l.first ≤ i → i < l.at → mark_at l.marks (slice_index_or l.places.items i 0) ≡ 1;
+  size : length l.marks.items ≡ length l.fn.marks.items;
+  kept : (c : ℕ) → mark_at l.marks.items c ≡ 0 → mark_at l.fn.marks.items c ≡ 0;
+  marked : (i : ℕ) → l.first ≤ i → i < l.at → mark_at l.marks.items (slice_index_or l.places.items i 0) ≡ 1;
 }

@@ -7,8 +7,8 @@ use Rattle.world_drain.proofs.awake.mark_full.Given as goal
 abbrev pub invariant-loop-c : goal.invariant-loop-c
 invariant-loop-c l = record {
   within : l.from ≤ length l.w.links.channels;
-  size : length l.marks ≡ length l.fn.marks;
-  full : (k : ℕ) → k < l.from → mark_at l.marks k ≡ 0 → packet_in l.w.links k ≡ None;
+  size : length l.marks.items ≡ length l.fn.marks.items;
+  full : (k : ℕ) → k < l.from → mark_at l.marks.items k ≡ 0 → packet_in l.w.links k ≡ None;
 }
 
 abbrev pub decreases-loop-c : goal.decreases-loop-c

@@ -1,6 +1,5 @@
-use Rattle.std.proofs.Common.{sym, ap, subst, ◌≤◌, ◌∙◌}
+use Rattle.std.proofs.Common.{sym, ap, subst, ◌≤◌}
 use Rattle.world_defs.specs.Hops.{total_hops}
-use Rattle.world_defs.specs.Drain.{changes}
 use Rattle.world_laws.proofs.Draining.{drain-cost}
 use Rattle.world_drain.proofs.draining.drain.Goals as goal
 

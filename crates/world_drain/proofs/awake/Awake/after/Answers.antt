@@ -6,7 +6,7 @@ use Rattle.world_drain.proofs.awake.Awake.after.Goals as goal
 pub unmark-requires : goal.unmark-requires
 unmark-requires c =
     let a = c.args.self.now in
-    let told = hop-told c.args.w.now.links c.args.c c.args.hop (Moved c.in-Moved.next) a.marks a.places.items a.counts.items c.in-Moved.is c.requires.awake in
+    let told = hop-told c.args.w.now.links c.args.c c.args.hop (Moved c.in-Moved.next) a.marks.items a.places.items a.counts.items c.in-Moved.is c.requires.awake in
     let low = c.requires.there in
     let rows = told.0.rows.marked in
     omega (arith, low, rows)
@@ -14,7 +14,7 @@ unmark-requires c =
 pub mark-requires : goal.mark-requires
 mark-requires c =
     let a = c.args.self.now in
-    let told = hop-told c.args.w.now.links c.args.c c.args.hop (Moved c.in-Moved.next) a.marks a.places.items a.counts.items c.in-Moved.is c.requires.awake in
+    let told = hop-told c.args.w.now.links c.args.c c.args.hop (Moved c.in-Moved.next) a.marks.items a.places.items a.counts.items c.in-Moved.is c.requires.awake in
     let low = told.1 in
     let rows = told.0.rows.marked in
     let size = c.unmark.ensures.size in
@@ -23,25 +23,25 @@ mark-requires c =
 pub wake-requires-clause-awake : goal.wake-requires-clause-awake
 wake-requires-clause-awake c =
     let a = c.args.self.now in
-    let told = hop-told c.args.w.now.links c.args.c c.args.hop (Moved c.in-Moved.next) a.marks a.places.items a.counts.items c.in-Moved.is c.requires.awake in
-    moved-but c.args.w.now.links c.args.c c.in-Moved.next a.marks c.unmark.new.marks c.mark.new.marks a.places.items a.counts.items told.0 c.unmark.ensures c.mark.ensures
+    let told = hop-told c.args.w.now.links c.args.c c.args.hop (Moved c.in-Moved.next) a.marks.items a.places.items a.counts.items c.in-Moved.is c.requires.awake in
+    moved-but c.args.w.now.links c.args.c c.in-Moved.next a.marks.items c.unmark.new.marks.items c.mark.new.marks.items a.places.items a.counts.items told.0 c.unmark.ensures c.mark.ensures
 
 pub blocked-requires-clause-awake : goal.blocked-requires-clause-awake
 blocked-requires-clause-awake c =
     let a = c.args.self.now in
-    let told = hop-told c.args.w.now.links c.args.c c.args.hop (Blocked c.in-Blocked.next) a.marks a.places.items a.counts.items c.in-Blocked.is c.requires.awake in
+    let told = hop-told c.args.w.now.links c.args.c c.args.hop (Blocked c.in-Blocked.next) a.marks.items a.places.items a.counts.items c.in-Blocked.is c.requires.awake in
     told.0
 
 pub blocked-requires-clause-waits : goal.blocked-requires-clause-waits
 blocked-requires-clause-waits c =
     let a = c.args.self.now in
-    let told = hop-told c.args.w.now.links c.args.c c.args.hop (Blocked c.in-Blocked.next) a.marks a.places.items a.counts.items c.in-Blocked.is c.requires.awake in
+    let told = hop-told c.args.w.now.links c.args.c c.args.hop (Blocked c.in-Blocked.next) a.marks.items a.places.items a.counts.items c.in-Blocked.is c.requires.awake in
     told.1
 
 pub unmark-requires-in-Untried : goal.unmark-requires-in-Untried
 unmark-requires-in-Untried c =
     let a = c.args.self.now in
-    let told = hop-told c.args.w.now.links c.args.c c.args.hop Untried a.marks a.places.items a.counts.items c.in-Untried.is c.requires.awake in
+    let told = hop-told c.args.w.now.links c.args.c c.args.hop Untried a.marks.items a.places.items a.counts.items c.in-Untried.is c.requires.awake in
     let low = c.requires.there in
     let rows = told.0.rows.marked in
     omega (arith, low, rows)
@@ -49,5 +49,5 @@ unmark-requires-in-Untried c =
 pub wake-requires-in-Untried-clause-awake : goal.wake-requires-in-Untried-clause-awake
 wake-requires-in-Untried-clause-awake c =
     let a = c.args.self.now in
-    let told = hop-told c.args.w.now.links c.args.c c.args.hop Untried a.marks a.places.items a.counts.items c.in-Untried.is c.requires.awake in
-    left-but c.args.w.now.links c.args.c a.marks c.unmark-in-Untried.new.marks a.places.items a.counts.items told.0 told.1 c.unmark-in-Untried.ensures
+    let told = hop-told c.args.w.now.links c.args.c c.args.hop Untried a.marks.items a.places.items a.counts.items c.in-Untried.is c.requires.awake in
+    left-but c.args.w.now.links c.args.c a.marks.items c.unmark-in-Untried.new.marks.items a.places.items a.counts.items told.0 told.1 c.unmark-in-Untried.ensures

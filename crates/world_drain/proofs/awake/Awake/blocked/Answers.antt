@@ -1,4 +1,4 @@
-use Rattle.std.proofs.Common.{◌≡◌, ℕ, ◌+◌, get_or, set, ◌∙◌, ap, arith}
+use Rattle.std.proofs.Common.{ℕ, ◌+◌, get_or, set, ◌∙◌, ap, arith}
 use Rattle.world_drain.proofs.Sleeping.{waits-below, blocked-awake}
 use Rattle.world_drain.proofs.awake.Awake.blocked.Goals as goal
 
@@ -36,7 +36,7 @@ returns-then-count-lt-PLACES c =
     let a = c.args.self.now in
     let s = c.args.w.now.links in
     let count : ℕ = c.number_at-count.result in
-    blocked-awake s c.args.c c.args.next count a.marks c.unmark.new.marks a.places.items a.counts.items c.requires.awake c.requires.waits c.requires.there (waits-below s c.args.c c.args.next c.requires.waits)
+    blocked-awake s c.args.c c.args.next count a.marks.items c.unmark.new.marks.items a.places.items a.counts.items c.requires.awake c.requires.waits c.requires.there (waits-below s c.args.c c.args.next c.requires.waits)
     (c.number_at-count.ensures ∙ ap (λ k. get_or a.counts.items k 0) c.from-row.ensures) c.if-count-lt-PLACES.true c.unmark.ensures c.put.new.numbers.items c.put-then-count-lt-PLACES.new.numbers.items
     (c.put.ensures ∙ ap (λ k. set a.places.items k c.args.c) c.place_of.ensures) (c.put-then-count-lt-PLACES.ensures ∙ ap (λ k. set a.counts.items k (count + 1)) c.from-row.ensures)
 

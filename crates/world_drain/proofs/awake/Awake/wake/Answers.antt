@@ -1,4 +1,4 @@
-use Rattle.std.proofs.Common.{◌≡◌, get_or, set, ◌∙◌, ap, arith}
+use Rattle.std.proofs.Common.{get_or, set, ◌∙◌, ap, arith}
 use Rattle.world_drain.proofs.Sleeping.{woken}
 use Rattle.world_drain.proofs.awake.Awake.wake.Goals as goal
 
@@ -37,7 +37,7 @@ returns c =
     let row = c.from-row.ensures in
     let first = c.place_of.ensures in
     let end = c.place_of-2.ensures in
-    woken c.args.w.now.links c.args.c c.number_at-count.result a.marks c.mark_all.new.marks a.places.items a.counts.items c.put.new.numbers.items c.requires.awake
+    woken c.args.w.now.links c.args.c c.number_at-count.result a.marks.items c.mark_all.new.marks.items a.places.items a.counts.items c.put.new.numbers.items c.requires.awake
     (omega (arith, low, rows)) (c.number_at-count.ensures ∙ ap (λ k. get_or a.counts.items k 0) row) c.mark_all.ensures.size c.mark_all.ensures.kept
     (λ i above below. c.mark_all.ensures.marked i (omega (arith, above, first)) (omega (arith, below, end)))
     (c.put.ensures ∙ ap (λ k. set a.counts.items k 0) row)
