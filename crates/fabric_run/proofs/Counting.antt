@@ -1,5 +1,5 @@
 -- The run of a generated text.
-use Rattle.std.proofs.Common.{◌≡◌, ◌<◌, ℕ, suc, List, [], ◌++◌, length, take, get_or, Result, Ok, Err, IfOk, refl, ap, sym, subst, ◌∙◌}
+use Rattle.std.proofs.Common.{◌≡◌, ◌≤◌, ◌<◌, ℕ, suc, List, [], ◌++◌, length, take, get_or, Result, Ok, Err, IfOk, refl, ap, sym, subst, ◌∙◌}
 use Rattle.std.proofs.lemmas.Grind.{flat_map-append}
 use Rattle.net_defs.specs.Network.{Network}
 use Rattle.run_defs.specs.declared.command.Command.{Command}
@@ -7,17 +7,21 @@ use Rattle.world_defs.specs.World.{fabric_of}
 use Rattle.run_defs.specs.declared.figure.Figure.{Figure}
 use Rattle.run_defs.specs.declared.line.Line.TheVariants.{GenHead}
 use Rattle.run_defs.specs.LineText.{line_text, output_text}
-use Rattle.run_defs.specs.Output.{lines}
+use Rattle.run_defs.specs.Output.{Piece, lines}
 use Rattle.run_defs.specs.Session.{SessionState, new_session}
 use Rattle.run_defs.specs.Run.{Runs, IsRun}
 use Rattle.run_defs.specs.Run.Runs.{ended}
 use Rattle.run_defs.specs.Summary.{figures_in, piece_figures}
 use Rattle.run_laws.proofs.RunsOnce.{runs-more}
 use Rattle.fab_report.specs.Printed.{figure_lines}
+use Rattle.fab_text.specs.Fault.{FirstFault}
 use Rattle.fabric_gen.specs.Text.{gen_text}
+use Rattle.input_texts.specs.Generated.{gen_fabric, gen_commands}
 use Rattle.input_texts.specs.Reading.{AcceptedText, IsAccepted}
+use Rattle.input_texts.proofs.Refusing.{generated-accepted}
 use Rattle.fabric_run.specs.Ends.{HasVerticesOf}
-use Rattle.fabric_run.specs.Generated.{IsCounted, HaveCounted, IsGenerated}
+use Rattle.fabric_run.specs.Generated.{IsCounted, HaveCounted, HasSixLines, IsGenerated}
+use Rattle.fabric_run.proofs.GeneratedRun.{generated-six}
 use Rattle.fabric_run.proofs.Naming.{summary-named}
 use Rattle.fabric_run.proofs.Writing.{take-one}
 
@@ -38,11 +42,22 @@ more-counted n cs i s next c before now low at ran one = record {
   counted = one.counted ∙ ap (λ ks. ks ++ figures_in one.output) ran.counted ∙ sym (flat_map-append piece_figures ran.output one.output);
 }
 
+-- a generated text is its fabric and its commands, so its run has six figures for lines
+same-text : (a b : AcceptedText) → ◌≡◌ {A = Result AcceptedText FirstFault} (Ok a) (Ok b) → a ≡ b
+same-text a b e = cc
+
+six-of : (hosts seed : ℕ) (a : AcceptedText) (out : List Piece) (last : SessionState) → 2 ≤ hosts → hosts ≤ 24 → IsAccepted (gen_text hosts seed) a → IsRun a.network a.commands out last → HasSixLines hosts seed a.network (figures_in out)
+six-of hosts seed a out last two few accepted run =
+    let text : AcceptedText = record { network = gen_fabric hosts; commands = gen_commands hosts seed } in
+    let same : text ≡ a = same-text text a (sym (generated-accepted hosts seed two few) ∙ accepted) in
+    subst (λ (x : AcceptedText). HasSixLines hosts seed x.network (figures_in out)) same
+    (generated-six hosts seed two few (subst (λ (x : AcceptedText). IsRun x.network x.commands out last) (sym same) run))
+
 -- the run of a generated text, whose summary is the line of its fabric and what its figures show
-pub generated-so : (hosts seed : ℕ) (a : AcceptedText) (n : Network) (s last : SessionState) (figures shown : List Figure) (head due : List ℕ) → IsAccepted (gen_text hosts seed) a → HaveCounted a.network a.commands figures s → HasVerticesOf a.network s
+pub generated-so : (hosts seed : ℕ) (a : AcceptedText) (n : Network) (s last : SessionState) (figures shown : List Figure) (head due : List ℕ) → 2 ≤ hosts → hosts ≤ 24 → IsAccepted (gen_text hosts seed) a → HaveCounted a.network a.commands figures s → HasVerticesOf a.network s
     → n ≡ a.network → head ≡ line_text n (GenHead hosts seed (length n.hosts) (length n.switches) (length n.cables)) → shown ≡ figures → last ≡ s
     → due ≡ head ++ output_text (fabric_of s.world) (lines (figure_lines shown)) → IsGenerated hosts seed due last
-generated-so hosts seed a n s last figures shown head due accepted counted stay net first same led is = record {
+generated-so hosts seed a n s last figures shown head due two few accepted counted stay net first same led is = record {
   says = a;
   accepted = accepted;
   output = counted.output;
@@ -50,6 +65,7 @@ generated-so hosts seed a n s last figures shown head due accepted counted stay 
   told = summary-named hosts seed a.network s (figures_in counted.output) head due stay
       (subst (λ k. head ≡ line_text k (GenHead hosts seed (length k.hosts) (length k.switches) (length k.cables))) net first)
       (is ∙ ap (λ ks. head ++ output_text (fabric_of s.world) (lines (figure_lines ks))) (same ∙ counted.counted));
+  six = six-of hosts seed a counted.output s two few accepted counted.run;
 }
 
 -- what an answer says where it is `Ok`, from two things that it says
