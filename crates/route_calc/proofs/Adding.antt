@@ -11,7 +11,8 @@ use Rattle.journal_defs.proofs.Members.{IsMember, all-member, all-from-members, 
 use Rattle.map_defs.specs.NetMap.{NetMap}
 use Rattle.net_defs.specs.RouteSet.{HasRoute, route_below}
 use Rattle.port_graph.specs.Routes.{is_above, push_refusal}
-use Rattle.route_calc.specs.Adding.{IsRightRoute, AddsRoutes}
+use Rattle.map_defs.specs.Routing.{IsLeastLegal}
+use Rattle.route_calc.specs.Adding.{IsRightRoute, AddsRoutes, IsLastLeast}
 use Rattle.route_calc.specs.Hosts.{HostWays, AreRisingHosts}
 
 -- what stands at a place stands there after more was added
@@ -109,3 +110,16 @@ adds-taken m order from ways count old new at r a low there is_from is_to =
   where
     same_from : (s : Route) → s.from ≡ from → s.to < at.host → route_below s r ≡ true
     same_from s e l = or-right (nat_lt s.from r.from) _ (rw (eq-eqb s.from r.from (e ∙ sym is_from)) (lt-ltb s.to r.to (subst (λ h. s.to < h) (sym is_to) l)))
+
+-- a route of these, if it leads from this host, is the least legal one
+abbrev IsLeastFrom : NetMap → List ℕ → ℕ → Route → Type 0
+IsLeastFrom m order from s = s.from ≡ from → IsLeastLegal m order s.from s.to s.walk
+
+pub adds-last : (m : NetMap) (order : List ℕ) (from : ℕ) (ways : List HostWays) (count : ℕ) (old new : List Route) → AddsRoutes m order from ways count old new → AllByRecursion (λ s. s.from < from) old → IsLastLeast m order from new
+adds-last m order from ways count old new a low r there same =
+    let before = all-from-members (IsLeastFrom m order from) old (λ s i e. absurd (less-apart s.from (all-member (λ (s : Route). s.from < from) s old low i) e)) in
+    let here = all-from-members (IsLeastFrom m order from) a.added (λ s i e. (all-member (IsRightRoute m order) s a.added a.right i).least) in
+    all-member (IsLeastFrom m order from) r new (subst (AllByRecursion (IsLeastFrom m order from)) (sym a.is) (all-join (IsLeastFrom m order from) old a.added before here)) (get-member new (length new - 1) r there) same
+  where
+    less-apart : (h : ℕ) → h < from → h ≡ from → ⊥
+    less-apart h l e = omega arith

@@ -1,5 +1,5 @@
 -- Two hosts at one switch: what is neither of them is as far from the one as from the other.
-use Rattle.std.proofs.Common.{◌≡◌, ◌≢◌, ◌<◌, ◌≤◌, ◌-◌, ◌*◌, ℕ, zero, suc, List, [], ◌∷◌, length, get_or, set, Bool, true, false, not, ◌&&◌, ◌||◌, nat_eq, nat_le, Option, Some, None, is_some, refl, ap, sym, ◌∙◌, subst, arith, ◌⊎◌, inl, inr, if◌then◌else◌, get_or-set_other, get_or-set_same}
+use Rattle.std.proofs.Common.{◌≡◌, ◌≢◌, ◌<◌, ◌≤◌, ◌-◌, ◌*◌, ℕ, zero, suc, List, [], ◌∷◌, length, get_or, set, Bool, true, false, not, ◌&&◌, ◌||◌, nat_eq, nat_le, Option, Some, None, IfSome, is_some, refl, ap, sym, ◌∙◌, subst, arith, ◌⊎◌, inl, inr, if◌then◌else◌, get_or-set_other, get_or-set_same}
 use Rattle.std.specs.Prelude.{slice_get}
 use Rattle.std.specs.List.{AllByRecursion, list_any}
 use Rattle.std.proofs.Math.ListN.{length-set}
@@ -17,7 +17,7 @@ use Rattle.route_calc.specs.Exits.{all_exits, exits_at, exits_of, is_open}
 use Rattle.route_calc.specs.Far.{place_in, far_at, AreDistances}
 use Rattle.route_calc.specs.First.{first_below}
 use Rattle.route_calc.specs.Firsts.{IsFirst, AreFirst}
-use Rattle.route_calc.specs.Hosts.{HostWays, AreWaysOf}
+use Rattle.route_calc.specs.Hosts.{HostWays, AreWaysOf, ways_before}
 use Rattle.route_calc.specs.Reaching.{may_go, leads_over, leads_near, port_of_place, least_exit, reaches}
 use Rattle.route_calc.specs.Turning.{first_exit}
 use Rattle.route_calc.proofs.First.{first-some}
@@ -31,7 +31,7 @@ turned : (m : NetMap) (x y : MapPort) → IsCabled m x y → IsCabled m y x
 turned m x y (forth k p) = back k p
 turned m x y (back k p) = forth k p
 
-leads-back : (m : NetMap) (d e : MapPort) → IsMap m → map_far m d ≡ Some e → map_far m e ≡ Some d
+pub leads-back : (m : NetMap) (d e : MapPort) → IsMap m → map_far m d ≡ Some e → map_far m e ≡ Some d
 leads-back m d e r f = (far_is_cabled m e d r).1 (turned m d e ((far_is_cabled m d e r).0 f))
 
 -- a host is entered from one port alone
@@ -268,6 +268,19 @@ pub slice-holds : {X : Type 0} (P : X → Type 0) (xs : List X) (k : ℕ) (x : X
 slice-holds P [] k x all e = cc
 slice-holds P (y ∷ ys) zero x all e = let one : y ≡ x = cc in subst P one all.0
 slice-holds P (y ∷ ys) (suc k) x all e = slice-holds P ys k x all.1 e
+
+-- the ways before those at a place
+pub before-holds : (P : HostWays → Type 0) (ws : List HostWays) (k : ℕ) → AllByRecursion P ws → IfSome (ways_before ws k) P
+before-holds P ws zero all = tt
+before-holds P ws (suc k) all = by (slice_get ws k) refl
+  where
+    by : (o : Option HostWays) → slice_get ws k ≡ o → IfSome o P
+    by None e = tt
+    by (Some w) e = slice-holds P ws k w all e
+
+pub before-there : (ws : List HostWays) (k : ℕ) → 0 < k → ways_before ws k ≡ slice_get ws (k - 1)
+before-there ws zero l = absurd (omega arith)
+before-there ws (suc k) l = let n : k ≡ suc k - 1 = omega arith in ap (slice_get ws) n
 
 -- Two hosts that hang at one switch.
 pub record AreBeside (m : NetMap) (order : List ℕ) (s a b : ℕ) : Type 0 where

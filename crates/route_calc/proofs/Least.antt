@@ -50,14 +50,14 @@ entered-once m b v r h c f far same =
     let port : f.p ≡ pos 0 = far-holds (λ (d : MapPort). (g : ℕ) → host_of_vertex m d.v ≡ Some g → d.p ≡ pos 0) m.cables c f r.host_ports far b (ap (host_of_vertex m) same ∙ h.host) in
     λ i. record { v = same i; p = port i }
 
-host-port : (m : NetMap) (a v : ℕ) → vertex_of_host m a ≡ Some v → port_of_host m a ≡ Some (record { v = v; p = pos 0 })
+pub host-port : (m : NetMap) (a v : ℕ) → vertex_of_host m a ≡ Some v → port_of_host m a ≡ Some (record { v = v; p = pos 0 })
 host-port m a v e = ap (λ o. option_map (λ x. let d : MapPort = record { v = x; p = pos 0 } in d) o) e
 
 abbrev pub host_start : ℕ → MapPort
 host_start v = record { v = v; p = pos 0 }
 
 -- another legal route is a legal way
-other-way : (m : NetMap) (order : List ℕ) (va vb a b : ℕ) (others : List ℤ) → vertex_of_host m a ≡ Some va → vertex_of_host m b ≡ Some vb → LeadsTo m a b others → is_legal m order a others ≡ true → Goes m order false (host_start va) others (host_start vb)
+pub other-way : (m : NetMap) (order : List ℕ) (va vb a b : ℕ) (others : List ℤ) → vertex_of_host m a ≡ Some va → vertex_of_host m b ≡ Some vb → LeadsTo m a b others → is_legal m order a others ≡ true → Goes m order false (host_start va) others (host_start vb)
 other-way m order va vb a b others is_a is_b l legal =
     let start = host-port m a va is_a in
     let one : ◌≡◌ {A = Option MapPort} (Some l.at) (Some (host_start vb)) = sym l.is_at ∙ host-port m b vb is_b in
@@ -97,7 +97,7 @@ turn_back p q t = grind (arith, ints)
 turn_none : (p : ℤ) → IsTurn (p -ℤ p)
 turn_none p = let z : p -ℤ p ≡ pos 0 = omega (arith, ints) in subst IsTurn (sym z) refl
 
-near-ports : (ds : List MapPort) (d e : MapPort) → AreNearPorts ds → IsMember d ds → IsMember e ds → IsNearPort d e
+pub near-ports : (ds : List MapPort) (d e : MapPort) → AreNearPorts ds → IsMember d ds → IsMember e ds → IsNearPort d e
 near-ports [] d e near i j = absurd i
 near-ports (x ∷ ds) d e near (inl p) (inl q) = λ v. subst (λ (z : MapPort). IsTurn (d.p -ℤ z.p)) (p ∙ sym q) (turn_none d.p)
 near-ports (x ∷ ds) d e near (inl p) (inr j) = λ v. subst (λ (z : MapPort). IsTurn (z.p -ℤ e.p)) (sym p) (all-member (IsNearPort x) e ds near.0 j (ap (λ (z : MapPort). z.v) (sym p) ∙ v))

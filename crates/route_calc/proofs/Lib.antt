@@ -10,10 +10,12 @@ pub mod Least
 pub mod Listed
 pub mod Lowered
 pub mod Made
+pub mod Moved
 pub mod Nearer
 pub mod Numbered
 pub mod Reached
 pub mod Rising
+pub mod Showing
 pub mod Starting
 pub mod Swept
 pub mod Turned

@@ -55,12 +55,12 @@ distance-low m order to k v down far r few d e =
     omega arith
 
 -- Where a channel leads, as a port.
-record Arrived (m : NetMap) (order : List ℕ) (d : MapPort) (s : Entered) : Type 0 where
+pub record Arrived (m : NetMap) (order : List ℕ) (d : MapPort) (s : Entered) : Type 0 where
   pub entered : MapPort
   pub far : map_far m d ≡ Some entered
   pub is : arrival m order d entered ≡ s
 
-arrived : (m : NetMap) (order : List ℕ) (d : MapPort) (s : Entered) → entered_by m order d ≡ Some s → Arrived m order d s
+pub arrived : (m : NetMap) (order : List ℕ) (d : MapPort) (s : Entered) → entered_by m order d ≡ Some s → Arrived m order d s
 arrived m order d s e = by (map_far m d) refl e
   where
     by : (o : Option MapPort) → map_far m d ≡ o → option_map (λ (f : MapPort). arrival m order d f) o ≡ Some s → Arrived m order d s

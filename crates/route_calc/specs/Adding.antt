@@ -1,5 +1,5 @@
 -- Routes that are added to others.
-use Rattle.std.specs.Prelude.{◌≡◌, ◌≢◌, ℕ, ◌<◌, ◌≤◌, List, ◌++◌, slice_get, Some}
+use Rattle.std.specs.Prelude.{◌≡◌, ◌≢◌, ℕ, ◌-◌, ◌<◌, ◌≤◌, List, ◌++◌, length, slice_get, Some}
 use Rattle.std.specs.List.{AllByRecursion}
 use Rattle.net_defs.specs.declared.route.Route.{Route}
 use Rattle.map_defs.specs.NetMap.{NetMap}
@@ -23,3 +23,8 @@ pub record AddsRoutes (m : NetMap) (order : List ℕ) (from : ℕ) (ways : List 
       → AllByRecursion (λ r. r.to < w.host) added
   pub whole : (k : ℕ) (w : HostWays) → k < count → slice_get ways k ≡ Some w → from ≢ w.host
       → HasRoute added from w.host
+
+-- the last of some routes is the least legal one, if it leads from this host
+abbrev pub IsLastLeast : NetMap → List ℕ → ℕ → List Route → Type 0
+IsLastLeast m order from routes = (r : Route) → slice_get routes (length routes - 1) ≡ Some r → r.from ≡ from
+    → IsLeastLegal m order r.from r.to r.walk

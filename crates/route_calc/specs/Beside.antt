@@ -1,7 +1,9 @@
 -- Two hosts at one switch, and the ways to one of them by those to the other.
-use Rattle.std.specs.Prelude.{◌≡◌, ℕ, Bool, true, false, not, ◌&&◌, List, nat_eq, slice_set}
+use Rattle.std.specs.Prelude.{◌≡◌, ℕ, ℤ, ◌+ℤ◌, ◌-ℤ◌, Bool, true, false, not, ◌&&◌, List, [], ◌∷◌, nat_eq, slice_set}
+use Rattle.std.specs.Prelude.{if◌then◌else◌, Option, Some, None}
 use Rattle.std.specs.List.{list_any}
 use Rattle.map_defs.specs.NetMap.{NetMap, is_switch_vertex}
+use Rattle.route_calc.specs.declared.entered.Entered.{Entered}
 use Rattle.route_calc.specs.declared.entered.Exit.{Exit}
 use Rattle.route_calc.specs.Far.{place_in}
 use Rattle.route_calc.specs.Firsts.{IsFirst}
@@ -27,3 +29,23 @@ pub record AreFirstsBeside (exits : List (List Exit)) (far : List ℕ) (s : ℕ)
   pub is : new ≡ slice_set (slice_set old (place_in s false) free) (place_in s true) down
   pub is_free : IsFirst exits far s false free
   pub is_down : IsFirst exits far s true down
+
+-- two hosts hang at one switch, where their cables lead up
+abbrev pub hang_at_one : NetMap → Entered → Entered → Bool
+hang_at_one m p q = nat_eq p.v q.v && (is_switch_vertex m p.v && (not p.down && not q.down))
+
+-- how much greater the port is that leads to the second of two hosts at one switch
+abbrev pub ports_apart : NetMap → Option Entered → Option Entered → Option ℤ
+ports_apart m None q = None
+ports_apart m (Some p) None = None
+ports_apart m (Some p) (Some q) = if hang_at_one m p q then Some (q.port -ℤ p.port) else None
+
+-- a turn and those after it, with so much more at the last: with 2 more, -1 +3 is -1 +5
+abbrev pub turn_moved : ℤ → ℤ → List ℤ → List ℤ
+turn_moved more t [] = (t +ℤ more) ∷ []
+turn_moved more t (u ∷ us) = t ∷ turn_moved more u us
+
+-- turns with so much more at the last
+abbrev pub turns_moved : ℤ → List ℤ → List ℤ
+turns_moved more [] = []
+turns_moved more (t ∷ ts) = turn_moved more t ts

@@ -1,5 +1,6 @@
 -- The ways to each host.
-use Rattle.std.specs.Prelude.{◌≡◌, ℕ, ◌<◌, ◌*◌, pos, List, [], ◌∷◌, length, slice_get, Option, Some}
+use Rattle.std.specs.Prelude.{◌≡◌, ℕ, zero, suc, ◌<◌, ◌*◌, pos, List, [], ◌∷◌, length, slice_get, Option, Some}
+use Rattle.std.specs.Prelude.{None}
 use Rattle.std.specs.List.{AllByRecursion}
 use Rattle.map_defs.specs.NetMap.{NetMap, host_of_vertex}
 use Rattle.map_defs.specs.Routing.{vertex_of_host}
@@ -43,3 +44,8 @@ pub record AreAllWays (m : NetMap) (order : List ℕ) (ws : List HostWays) : Typ
   pub each : AllByRecursion (AreWaysOf m order) ws
   pub rising : AreRisingHosts ws
   pub whole : (v h : ℕ) → host_of_vertex m v ≡ Some h → HasWays ws h
+
+-- the ways before those at a place
+abbrev pub ways_before : List HostWays → ℕ → Option HostWays
+ways_before ws zero = None
+ways_before ws (suc k) = slice_get ws k

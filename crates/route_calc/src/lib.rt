@@ -12,7 +12,8 @@
 //! host: first those of packets that went down, from the last vertex on, then the others, from the first. A channel
 //! down leads to a place farther from the root, so where switches are numbered by that distance, as a mapper numbers
 //! them, one sweep finds all. Else there are sweeps until nothing is left. A host that hangs at the switch of the host
-//! before it takes the distances of that one, with its own place in the place of the other's.
+//! before it takes the distances of that one, with its own place in the place of the other's; and a route to it is the
+//! route before, with another last turn.
 //!
 //! ```text
 //!   a ---- s ---- t ---- b      To b, the distances of b, t and s are 0, 1 and 2. From s, the least port that leads
@@ -29,6 +30,7 @@
 //! | `numbering` | whether vertices are numbered as they stand in the order |
 //! | `ways` | the ways to one host |
 //! | `beside` | the ways to a host by those to another at its switch |
+//! | `shared` | the walk to a host by that to another at its switch |
 //! | `pairs` | the routes of all hosts |
 #![tactic(auto)]
 
@@ -39,6 +41,7 @@ mod exits;
 mod firsts;
 mod numbering;
 mod pairs;
+mod shared;
 mod ways;
 
 pub use pairs::routes;

@@ -1,7 +1,7 @@
 //! The routes of all hosts.
 
 ghost use Rattle.std.specs.Prelude.{◌≡◌, ◌≢◌, ℕ, pos, ◌<◌, ◌≤◌, ◌++◌, ◌∷◌, [], length, take, true, None, Some, IfOk};
-ghost use Rattle.std.specs.Prelude.{IfSome, OnOk};
+ghost use Rattle.std.specs.Prelude.{IfSome, OnOk, option_copied};
 ghost use Rattle.std.specs.List.{AllByRecursion, list_all};
 ghost use Rattle.net_defs.specs.Turn.{IsTurn, is_turn, walk_refusal};
 ghost use Rattle.map_defs.specs.NetMap.{IsConnected, host_of_vertex, switches_of};
@@ -9,9 +9,9 @@ ghost use Rattle.map_defs.specs.Orientation.{order_of};
 ghost use Rattle.map_defs.specs.Routing.{IsLeastLegal, AreRoutesOf, vertex_of_host};
 ghost use Rattle.updown.specs.Oriented.{orientation_of};
 ghost use Rattle.port_graph.specs.Routes.{push_refusal};
-ghost use Rattle.route_calc.specs.Adding.{AddsRoutes};
+ghost use Rattle.route_calc.specs.Adding.{AddsRoutes, IsLastLeast};
 ghost use Rattle.route_calc.specs.Exits.{all_exits};
-ghost use Rattle.route_calc.specs.Hosts.{AreWaysOf, AreAllWays, AreRisingHosts};
+ghost use Rattle.route_calc.specs.Hosts.{AreWaysOf, AreAllWays, AreRisingHosts, ways_before};
 ghost use Rattle.route_calc.specs.Far.{far_at};
 ghost use Rattle.route_calc.specs.Lowering.{AreNumbered};
 ghost use Rattle.route_calc.specs.Ways.{IsDistance, entered_by};
@@ -20,6 +20,7 @@ use crate::beside::ways_beside;
 use crate::entered::Entered;
 use crate::exits::{Exits, all_exits};
 use crate::numbering::are_numbered;
+use crate::shared::shared_walk;
 use crate::ways::Ways;
 use fabric_map::{FabricMap, MapVertex};
 use net_defs::{FEW_TURNS, WalkFault};
@@ -171,10 +172,12 @@ fn add_routes(
 {
     let a = from.host();
     let mut turns = Vec::with_capacity(alloc, MAX_TURNS)?;
-    for to in ways {
+    for k in 0..ways.len() {
+        let to = &ways[k];
         let b = to.host();
         if a != b {
-            let walk = least_walk(alloc, m, exits, from, to, &mut turns)?;
+            let other = ways_before(ways, k);
+            let walk = next_walk(alloc, m, exits, set.list(), from, other, to, &mut turns)?;
             add_route(
                 Route {
                     from: a,
@@ -198,6 +201,41 @@ fn add_route(r: Route, set: &mut RouteSet) -> Result<(), AllocError>
         Err((_, RoutePush::NoMemory)) => Err(AllocError),
         Err((_, RoutePush::Order)) => unreachable!(),
     }
+}
+
+// The least legal walk from a host to another: by the last of these routes where that can be, and else turn by turn.
+fn next_walk(
+    alloc: Global,
+    m: &FabricMap,
+    exits: &[Exits],
+    routes: &[Route],
+    from: &Ways,
+    other: Option<&Ways>,
+    to: &Ways,
+    turns: &mut Vec<i8>,
+) -> Result<Walk, AllocError>
+    requires exits { exits.now ≡ all_exits m.now (order_of m.now) }
+    requires connected { IsConnected m.now }
+    requires few { length (switches_of m.now.vertices) ≤ 64 }
+    requires last { IsLastLeast m.now (order_of m.now) from.now.host routes.now }
+    requires from { AreWaysOf m.now (order_of m.now) from.now }
+    requires other { IfSome (option_copied other) (AreWaysOf m.now (order_of m.now)) }
+    requires to { AreWaysOf m.now (order_of m.now) to.now }
+    requires differ { from.now.host ≢ to.now.host }
+    ensures { IfOk result (λ w. IsLeastLegal m.now (order_of m.now) from.now.host to.now.host w) }
+{
+    match shared_walk(alloc, m, routes, from, other, to)? {
+        Some(walk) => Ok(walk),
+        None => least_walk(alloc, m, exits, from, to, turns),
+    }
+}
+
+// The ways before those at a place.
+fn ways_before(ways: &[Ways], k: usize) -> Option<&Ways>
+    requires { k < length ways.now }
+    ensures { option_copied result ≡ ways_before ways.now k }
+{
+    if k == 0 { None } else { Some(&ways[k - 1]) }
 }
 
 // The least legal walk from a host to another. Its turns are put together in a list that serves for many walks.
