@@ -28,7 +28,7 @@ use Rattle.run_defs.specs.declared.command.Command.TheVariants.{Pull, Plug, Revo
 use Rattle.run_defs.specs.declared.line.Line.{Line}
 use Rattle.run_defs.specs.declared.line.Line.TheVariants.{Pull as PullLine, Plug as PlugLine, Revoked, Broken as BrokenLine, EndBroken, NoBroken}
 use Rattle.run_defs.specs.declared.line.PlugWords.{PlugWords}
-use Rattle.run_defs.specs.declared.line.PlugWords.TheVariants.{Done as Joined, PortUsed, Full}
+use Rattle.run_defs.specs.declared.line.PlugWords.TheVariants.{Done as Joined}
 use Rattle.run_defs.specs.LineText.{line_text, output_text}
 use Rattle.run_defs.specs.Outcome.{Outcome, outcome, seen, is_done, words_of_plug, revocations, broken_routes, broken_lines}
 use Rattle.run_defs.specs.Output.{OneLine, lines}
@@ -41,7 +41,7 @@ use Rattle.adopted_routes.specs.Adopting.{IsSetOfHosts}
 use Rattle.fab_world.specs.Held.{IsMoment}
 use Rattle.fab_remap.specs.declared.cables.PlugRefusal.{PlugRefusal}
 use Rattle.fab_remap.specs.declared.cables.PlugRefusal.TheVariants.{PortUsed as UsedRefusal, Full as FullRefusal}
-use Rattle.fab_remap.specs.Remap.{effect_of, is_done as is_done_event, plug_refusal, hosts_of, broken_pairs}
+use Rattle.fab_remap.specs.Remap.{effect_of, plug_refusal, hosts_of, broken_pairs}
 use Rattle.world_commands.specs.declared.out_of_memory.OutOfMemory.TheVariants.{InDoing, InLine}
 use Rattle.world_commands.specs.Broken.{AreHostsOf, pair_text, pairs_text}
 use Rattle.world_commands.specs.Cut.{is_refusal_line, IsLeft}
@@ -119,33 +119,6 @@ plug_left w v a b same free = undone same (λ made found.
 abbrev why : Bool → Bool → Option PlugRefusal
 why used few = if used then Some UsedRefusal else if few then None else Some FullRefusal
 
-abbrev words_by : Bool → Bool → PlugWords
-words_by used few = if used then PortUsed else if few then Joined else Full
-
-told-free : (used few : Bool) → why used few ≡ None → words_by used few ≡ Joined
-told-free true few e = cc
-told-free false true e = refl
-told-free false false e = cc
-
-told-used : (used few : Bool) → why used few ≡ Some UsedRefusal → PortUsed ≡ words_by used few
-told-used true few e = refl
-told-used false true e = cc
-told-used false false e = cc
-
-told-full : (used few : Bool) → why used few ≡ Some FullRefusal → Full ≡ words_by used few
-told-full true few e = cc
-told-full false true e = cc
-told-full false false e = refl
-
-pub free-told : (w : WorldState) (a b : End) → plug_refusal w a b ≡ None → words_of_plug w a b ≡ Joined
-free-told w a b e = told-free (is_some (cable_refusal (fabric_of w) a b)) (nat_lt (length w.links.cables.wires) cable_limit) e
-
-pub used-told : (w : WorldState) (a b : End) → plug_refusal w a b ≡ Some UsedRefusal → PortUsed ≡ words_of_plug w a b
-used-told w a b e = told-used (is_some (cable_refusal (fabric_of w) a b)) (nat_lt (length w.links.cables.wires) cable_limit) e
-
-pub full-told : (w : WorldState) (a b : End) → plug_refusal w a b ≡ Some FullRefusal → Full ≡ words_of_plug w a b
-full-told w a b e = told-full (is_some (cable_refusal (fabric_of w) a b)) (nat_lt (length w.links.cables.wires) cable_limit) e
-
 -- a refused plug is idle
 may-not : {A : Type 0} (o : Option A) (few : Bool) (c : PlugRefusal) → why (is_some o) few ≡ Some c → (is_none o && few) ≡ false
 may-not (Some x) few c e = refl
@@ -175,13 +148,6 @@ plug-refused {T = T} w v a b r e c is same other refuses unchanged =
     (subst (λ (x : Result T PlugRefusal). OnErr x (v ≡ w)) err unchanged)
 
 -- ---- the revocations of all hosts
-pub done-same : (x : Effect) → is_done_event x ≡ is_done x
-done-same (Said Done) = refl
-done-same _ = refl
-
-pub counts-same : (xs : List Effect) → length (filter is_done_event xs) ≡ length (filter is_done xs)
-counts-same xs = λ i. length (filter (λ x. done-same x i) xs)
-
 revoked-to : (w v : WorldState) (made : Option LastMap) (found : Option LastRoutes) → v ≡ (steps w (revocations w)).1
     → outcome (session_of w made found) Revoke ≡ Some (record { output = OneLine (Revoked (length (filter is_done (steps w (revocations w)).0))) ∷ []; after = session_of v made found })
 revoked-to w v made found same =

@@ -32,7 +32,7 @@ pub(crate) fn call(
     event: Event,
     printed: &mut Printed,
 ) -> Result<(), OutOfMemory>
-    requires there { IsHost (fabric_of w.old) at.host }
+    requires host { IsHost (fabric_of w.old) at.host }
     requires client { IsClientCall event }
     requires given { IsGiven w.old event }
     ensures done { (c : Command) → IsCall c call at event → OnOk result (IsDone c w.old w.new printed.new) }
@@ -55,7 +55,7 @@ pub(crate) fn print_answer(
     at: PortAt,
     said: &Said,
 ) -> Result<(), OutOfMemory>
-    requires there { IsHost f.now at.host }
+    requires host { IsHost f.now at.host }
     requires sender { IsOfHosts (length f.now.hosts) (SaidSo said.now) }
     ensures text { OnOk result (printed.new ≡ printed_of f.now (lines (client_lines call at.host at.port
         (SaidSo said.now)))) }

@@ -26,7 +26,7 @@ pub fn open(
     recvs: u16,
     printed: &mut Printed,
 ) -> Result<(), OutOfMemory>
-    requires there { IsHost (fabric_of w.old) at.host }
+    requires host { IsHost (fabric_of w.old) at.host }
     requires port { at.port ≤ 7 }
     ensures done { OnOk result (IsDone (Begin at.host at.port sends recvs) w.old w.new printed.new) }
     ensures err { IfErr result (λ e. IsLeft (Begin at.host at.port sends recvs) w.old w.new e) }
@@ -44,7 +44,7 @@ pub fn close(
     at: PortAt,
     printed: &mut Printed,
 ) -> Result<(), OutOfMemory>
-    requires there { IsHost (fabric_of w.old) at.host }
+    requires host { IsHost (fabric_of w.old) at.host }
     requires port { at.port ≤ 7 }
     ensures done { OnOk result (IsDone (Close at.host at.port) w.old w.new printed.new) }
     ensures err { IfErr result (λ e. IsLeft (Close at.host at.port) w.old w.new e) }
@@ -61,7 +61,7 @@ pub fn poll(
     at: PortAt,
     printed: &mut Printed,
 ) -> Result<(), OutOfMemory>
-    requires there { IsHost (fabric_of w.old) at.host }
+    requires host { IsHost (fabric_of w.old) at.host }
     requires port { at.port ≤ 7 }
     ensures done { OnOk result (IsDone (Poll at.host at.port) w.old w.new printed.new) }
     ensures err { IfErr result (λ e. IsLeft (Poll at.host at.port) w.old w.new e) }
@@ -80,7 +80,7 @@ pub fn provide(
     prio: u8,
     printed: &mut Printed,
 ) -> Result<(), OutOfMemory>
-    requires there { IsHost (fabric_of w.old) at.host }
+    requires host { IsHost (fabric_of w.old) at.host }
     requires port { at.port ≤ 7 }
     ensures done { OnOk result (IsDone (Provide at.host at.port size prio) w.old w.new printed.new) }
     ensures err { IfErr result (λ e. IsLeft (Provide at.host at.port size prio) w.old w.new e) }
@@ -99,7 +99,7 @@ pub fn send(
     m: SendRequest,
     printed: &mut Printed,
 ) -> Result<(), OutOfMemory>
-    requires there { IsHost (fabric_of w.old) at.host }
+    requires host { IsHost (fabric_of w.old) at.host }
     requires port { at.port ≤ 7 }
     requires dest { IsHost (fabric_of w.old) m.to.host }
     requires dport { m.to.port ≤ 7 }

@@ -52,9 +52,9 @@ fn begin_new(alloc: Global, hosts: &mut Option<Duo>) -> Result<(), AllocError>
 
 // One event, once they have begun.
 fn happen(alloc: Global, hosts: &mut Option<Duo>, e: DuoEvent) -> Result<DuoEffect, AllocError>
-    requires there { hosts.old ≡ Some (begun hosts.old) }
+    requires begun { hosts.old ≡ Some (begun hosts.old) }
     requires fair { IsFair e }
-    ensures there { hosts.new ≡ Some (begun hosts.new) }
+    ensures begun { hosts.new ≡ Some (begun hosts.new) }
     ensures ok { IfOk result (λ effect. step (begun hosts.old) e ≡ (effect, begun hosts.new)) }
     ensures err { OnErr result (hosts.new ≡ hosts.old) }
 {

@@ -21,7 +21,7 @@ pub enum OutOfMemory {
 /// A command's one line is printed, for which memory may run out. The line is done with: callers that make one need not
 /// end it.
 pub fn one_line(printed: &mut Printed, l: Line, f: &Fabric) -> Result<(), OutOfMemory>
-    requires there { AreThere f.now l }
+    requires of_fabric { AreThere f.now l }
     ensures printed { OnOk result (printed.new ≡ printed_of f.now (OneLine l ∷ [])) }
     ensures err { IfErr result (λ e. e ≡ OutOfMemory.InLine) }
 {

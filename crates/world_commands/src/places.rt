@@ -25,7 +25,7 @@ use world_defs::{ClientCause, Said};
 
 /// Where each token of a port is, by number; or that the port isn't open.
 pub fn tokens(w: &World, at: PortAt, printed: &mut Printed) -> Result<(), OutOfMemory>
-    requires there { IsHost (fabric_of w.now) at.host }
+    requires host { IsHost (fabric_of w.now) at.host }
     requires port { at.port ≤ 7 }
     ensures done { OnOk result (IsDone (Tokens at.host at.port) w.now w.now printed.new) }
     ensures err { IfErr result (λ e. IsLeft (Tokens at.host at.port) w.now w.now e) }
@@ -53,7 +53,7 @@ fn print_places(
     recvs: u16,
     printed: &mut Printed,
 ) -> Result<(), AllocError>
-    requires there { IsHost (fabric_of w.now) at.host }
+    requires host { IsHost (fabric_of w.now) at.host }
     requires among { IsHostOf w.now at.host }
     requires port { at.port < 8 }
     ensures { OnOk result (printed.new ≡ printed_of (fabric_of w.now)
@@ -74,7 +74,7 @@ fn put_places(
     count: u16,
     printed: &mut Printed,
 ) -> Result<(), AllocError>
-    requires there { IsHostOf w.now at.host }
+    requires host { IsHostOf w.now at.host }
     requires port { at.port < 8 }
     ensures { OnOk result (printed.new ≡ record {
       text = printed.old.text ++ flat_map (λ p. 32 ∷ place_text p)

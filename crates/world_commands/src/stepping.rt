@@ -95,7 +95,7 @@ fn event_text(
 fn words_of(w: &World, effect: &Effect) -> StepWords
     requires { IsNaming w.now effect.now }
     ensures words { result ≡ words_of w.now effect.now }
-    ensures there { AreWordsOf (fabric_of w.now) result }
+    ensures of_fabric { AreWordsOf (fabric_of w.now) result }
 {
     match effect {
         Effect::Idle | Effect::Staged | Effect::Said(_) => StepWords::Idle,
@@ -120,7 +120,7 @@ fn words_of(w: &World, effect: &Effect) -> StepWords
 fn tail_of(w: &World, c: u16) -> End
     requires { IsChannelOf w.now c }
     ensures named { result ≡ named_by_tail w.now c }
-    ensures there { IsTrue (has_vertex (fabric_of w.now) result.v) }
+    ensures vertex { IsTrue (has_vertex (fabric_of w.now) result.v) }
 {
     w.moment();
     let (tail, _head) = w.ends(c);

@@ -16,9 +16,9 @@ use Rattle.world_commands.proofs.Done.{called_so}
 use Rattle.world_commands.proofs.Later.{printed-before, host-stays}
 use Rattle.world_commands.proofs.answers.call.Goals as goal
 
-pub print_answer-requires-clause-there : goal.print_answer-requires-clause-there
-print_answer-requires-clause-there c =
-    subst (λ (n : Network). has_vertex n (Host c.args.at.host) ≡ true) (sym c.fabric.ensures) (host-stays c.args.w.now c.call.new.self c.args.at.host c.call.ensures.cables c.requires.there)
+pub print_answer-requires-clause-host : goal.print_answer-requires-clause-host
+print_answer-requires-clause-host c =
+    subst (λ (n : Network). has_vertex n (Host c.args.at.host) ≡ true) (sym c.fabric.ensures) (host-stays c.args.w.now c.call.new.self c.args.at.host c.call.ensures.cables c.requires.host)
 
 pub print_answer-requires-clause-sender : goal.print_answer-requires-clause-sender
 print_answer-requires-clause-sender c =

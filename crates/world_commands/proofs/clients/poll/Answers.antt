@@ -9,7 +9,7 @@ pub call-requires-clause-client : goal.call-requires-clause-client
 call-requires-clause-client c = event-client (PollEvent c.args.at.host c.args.at.port) c.poll.result tt c.poll.ensures
 
 pub call-requires-clause-given : goal.call-requires-clause-given
-call-requires-clause-given c = event-given c.args.w.now (PollEvent c.args.at.host c.args.at.port) c.poll.result (port_given c.args.w.now c.args.at.host c.args.at.port c.moment.ensures.kept c.requires.there c.requires.port) c.poll.ensures
+call-requires-clause-given c = event-given c.args.w.now (PollEvent c.args.at.host c.args.at.port) c.poll.result (port_given c.args.w.now c.args.at.host c.args.at.port c.moment.ensures.kept c.requires.host c.requires.port) c.poll.ensures
 
 pub returns-clause-done : goal.returns-clause-done
 returns-clause-done c = c.call.ensures.done (Poll c.args.at.host c.args.at.port) (event-call (Poll c.args.at.host c.args.at.port) PollCall c.args.at (PollEvent c.args.at.host c.args.at.port) c.poll.result refl c.poll.ensures)

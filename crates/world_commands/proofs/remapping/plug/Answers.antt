@@ -19,7 +19,7 @@ one_line-requires c =
     let v : WorldState = c.joined.new.w in
     let later = after-later w v (PlugEvent c.args.a c.args.b) c.in-Ok.ensures.after in
     record {
-      there = (
+      of_fabric = (
         subst (λ (n : Network). has_vertex n c.args.a.v ≡ true) (sym c.fabric.ensures) (end-stays w v c.args.a later c.requires.first),
         subst (λ (n : Network). has_vertex n c.args.b.v ≡ true) (sym c.fabric.ensures) (end-stays w v c.args.b later c.requires.second),
       );

@@ -19,7 +19,7 @@ one_line-requires c =
     let w : WorldState = c.args.w.now in
     let v : WorldState = c.pulled-done.new.w in
     let later = event-later w v (PullEvent c.args.at) (effect_of c.pulled-done.result) c.pulled-done.ensures.event in
-    record { there = subst (λ (n : Network). has_vertex n c.args.at.v ≡ true) (sym c.fabric.ensures) (end-stays w v c.args.at later c.requires) }
+    record { of_fabric = subst (λ (n : Network). has_vertex n c.args.at.v ≡ true) (sym c.fabric.ensures) (end-stays w v c.args.at later c.requires) }
 
 pub returns-clause-done : goal.returns-clause-done
 returns-clause-done c =

@@ -19,7 +19,7 @@ walk_alone-requires-clause-idle c = bare-empty c.args.links.now (fabric_of c.arg
 pub one_line-requires : goal.one_line-requires
 one_line-requires c =
     let now = now-empty c.args.links.now (fabric_of c.args.w.now) c.requires.empty in
-    record { there = subst (λ (n : Network). IsPlaceOf n c.in-Ok.end) (now ∙ sym c.fabric.ensures) c.in-Ok.ensures.there }
+    record { of_fabric = subst (λ (n : Network). IsPlaceOf n c.in-Ok.end) (now ∙ sym c.fabric.ensures) c.in-Ok.ensures.there }
 
 pub returns-clause-done : goal.returns-clause-done
 returns-clause-done c =
