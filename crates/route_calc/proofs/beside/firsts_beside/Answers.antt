@@ -1,4 +1,4 @@
-use Rattle.std.proofs.Common.{◌≡◌, true, false}
+use Rattle.std.proofs.Common.{true, false}
 use Rattle.route_calc.proofs.beside.firsts_beside.Goals as goal
 
 pub returns : goal.returns
