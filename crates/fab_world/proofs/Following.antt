@@ -244,12 +244,6 @@ inject-follows w v h x o n m own next is after =
     ∙ ap (λ (p : Effect × WorldState). struck_fabric (fabric_of w) (pulls_next w) p.0) (sym is)
     ∙ sym (injected-fabric w h) ∙ ap (λ (p : Effect × WorldState). fabric_of p.1) is
 
--- an ask leaves the links and the plan
-pub probe-follows : (w v : WorldState) (h : ℕ) (walk : List ℤ) (looped : Bool) (x : Effect) (o : Option End) (n m : Network) → n ≡ fabric_of w → o ≡ pulls_next w → injected (asked w h walk looped).1 h ≡ (x, v) → m ≡ struck_fabric n o x
-    → m ≡ fabric_of v
-unfolding asked
-probe-follows w v h walk looped x o n m own next is after = inject-follows (asked w h walk looped).1 v h x o n m own next is after
-
 -- ---- other events
 pub other-still : (e : Event) → ((h : ℕ) → e ≡ Inject h → ⊥) → ((at : End) → e ≡ Pull at → ⊥) → ((a b : End) → e ≡ Plug a b → ⊥) → is_of_cables e ≡ false
 other-still (Ask h walk looped) i p q = refl

@@ -175,27 +175,12 @@ still-watched {p} {ss} {o} {w} {h} {i} {x} m q at a e =
     subst (λ l. AreWatched l m) (sym (ap (slice_set ss i) (e ∙ there) ∙ set-get_or ss i no_host)) a
 
 -- a host that has nothing staged stays as it is where that is taken from it
-unstaged-same : (n : NodeState) → has_staged n ≡ false → record n { staged = None } ≡ n
+pub unstaged-same : (n : NodeState) → has_staged n ≡ false → record n { staged = None } ≡ n
 unstaged-same n none = by n.staged refl
   where
     by : (o : Option Staged) → n.staged ≡ o → record n { staged = None } ≡ n
     by None e = ap (λ s. record n { staged = s }) (sym e)
     by (Some s) e = absurd (true≢false (sym (ap (λ o. is_some o || is_some n.reply || is_some n.part_ack) e) ∙ none))
-
--- where the staged probe of a host is spent, the marks stay: without a mark it had none
-pub spent-watched : {p : LinksAndPlan} {ss : List ServedHost} {o : Option Adoption} {w : WorldState} {h i : ℕ} {x : ServedHost} (m : HostMarks) (q : ServedHost) → IsAt p ss o w h i x → AreWatched ss m → AreHosts (slice_set ss i q)
-    → q ≡ in_state x (record x.state { staged = None }) → AreWatched (slice_set ss i q) m
-spent-watched {p} {ss} {o} {w} {h} {i} {x} m q at a are e = record {
-  hosts = are;
-  awake = stays-marked IsAtRest ss i m.awake q (within at) (λ r. subst (IsAtRest i) (sym (state r.silent.unstaged)) r) a.awake;
-  busy = stays-marked IsSilent ss i m.busy q (within at) (λ r. subst (IsSilent i) (sym (state r.unstaged)) r) a.busy;
-}
-  where
-    there : x ≡ slice_index_or ss i no_host
-    there = read-within ss i x (within at) at.there
-
-    state : has_staged (slice_index_or ss i no_host).state ≡ false → q.state ≡ (slice_index_or ss i no_host).state
-    state none = ap (λ (s : ServedHost). s.state) e ∙ ap (λ (s : ServedHost). record s.state { staged = None }) there ∙ unstaged-same (slice_index_or ss i no_host).state none
 
 -- a host hears a packet: the marks stay where that leaves it as it was, and else it is marked
 pub heard-watched : {p : LinksAndPlan} {ss : List ServedHost} {o : Option Adoption} {w : WorldState} {h i : ℕ} {x : ServedHost} (m now : HostMarks) (q : ServedHost) (leaves : Bool) → IsAt p ss o w h i x → AreWatched ss m

@@ -53,39 +53,10 @@ stepped w v e r low m is ok err =
       adopted = later-adopted w v l;
     }
 
--- two events in a row, which both happened or neither
-pub stepped-twice : {E : Type 0} (w v : WorldState) (e f : Event) (r : Result Effect E) → IsByteEvent e → IsByteEvent f → IsMoment w → IsReachedNow w → IfOk r (λ x. step (step w e).1 f ≡ (x, v)) → OnErr r (v ≡ w) → IsStepped w v
-stepped-twice w v e f (Ok x) low byte m is ok err =
-    let u : WorldState = (step w e).1 in
-    let first : IsStepped w u = stepped w u e (happened (step w e).0) low m is refl tt in
-    let second : IsStepped u v = stepped u v f (happened x) byte first.moment first.reached ok tt in
-    let before = first.channels in
-    let after = second.channels in
-    record {
-      moment = second.moment;
-      reached = second.reached;
-      cables = later-on first.cables second.cables;
-      hosts = second.hosts ∙ first.hosts;
-      channels = omega (arith, before, after);
-      adopted = second.adopted ∙ first.adopted;
-    }
-  where
-    happened : Effect → Result Effect (Unit {0})
-    happened x = Ok x
-stepped-twice w v e f (Err wanting) low byte m is ok err = stepped w v e stopped low m is tt err
-  where
-    stopped : Result Effect (Unit {0})
-    stopped = Err tt
-
 -- ---- events that aren't plugs
 pub only-pulled : {E : Type 0} (w v : WorldState) (e : Event) (r : Result Effect E) → is_plug e ≡ false → IfOk r (λ x. step w e ≡ (x, v)) → OnErr r (v ≡ w) → OnlyPulled w.links.cables v.links.cables
 only-pulled w v e (Ok x) not ok err = rw (sym (ap (λ (p : Effect × WorldState). p.1) ok)) (step-pulled w e not)
 only-pulled w v e (Err y) not ok err = rw err OnlyPulled.still
-
-pub only-pulled-twice : {E : Type 0} (w v : WorldState) (e f : Event) (r : Result Effect E) → is_plug e ≡ false → is_plug f ≡ false → IfOk r (λ x. step (step w e).1 f ≡ (x, v)) → OnErr r (v ≡ w) → OnlyPulled w.links.cables v.links.cables
-only-pulled-twice w v e f (Ok x) not nor ok err =
-    rw (sym (ap (λ (p : Effect × WorldState). p.1) ok)) (pulled-on (step-pulled w e not) (step-pulled (step w e).1 f nor))
-only-pulled-twice w v e f (Err y) not nor ok err = rw err OnlyPulled.still
 
 -- pulls leave as many channels
 pull_at-channels : {h g : CableHistory} → PullAt h g → life_channels g ≡ life_channels h

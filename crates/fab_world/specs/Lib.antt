@@ -1,3 +1,4 @@
+pub mod Carried
 pub mod Events
 pub mod Following
 pub mod Held

@@ -4,7 +4,7 @@ ghost use Rattle.std.specs.Prelude.{◌≡◌, ◌≢◌, ◌≤◌, length, tru
 ghost use Rattle.net_defs.specs.Network.{far};
 ghost use Rattle.net_defs.specs.Building.{with_cable};
 ghost use Rattle.world_defs.specs.World.{fabric_of, host_count};
-ghost use Rattle.world_defs.specs.Step.{step, asked, injected, pulled, plugged};
+ghost use Rattle.world_defs.specs.Step.{step, injected, pulled, plugged};
 ghost use Rattle.adopted_routes.specs.Adopting.{IsSetOfHosts};
 ghost use Rattle.client_host.specs.Calls.{IsClientCall};
 ghost use Rattle.fab_world.specs.Events.{IsHostOf, IsGiven, takes_memory};
@@ -12,7 +12,7 @@ ghost use Rattle.fab_world.specs.Following.{struck_fabric, kept_fabric};
 ghost use Rattle.fab_world.specs.Held.{IsPolledOfHosts, is_refusal};
 
 use crate::machine::Machine;
-use net_defs::{End, Walk};
+use net_defs::End;
 use port_graph::{Fabric, GraphFault};
 use std::alloc::{AllocError, Global};
 use world_defs::{Effect, Event};
@@ -60,29 +60,6 @@ pub(crate) fn inject(
 {
     let planned = machine.next_pull();
     let effect = machine.inject(alloc, host)?;
-    strike(fabric, planned, &effect);
-    Ok(effect)
-}
-
-/// A host stages a probe and puts it into its channel at once, as [`inject`] does.
-#[inline(always)]
-pub(crate) fn probe(
-    fabric: &mut Fabric,
-    machine: &mut Machine,
-    alloc: Global,
-    host: u16,
-    walk: &Walk,
-    looped: bool,
-) -> Result<Effect, AllocError>
-    requires there { IsHostOf machine.old host }
-    requires short { looped ≡ true → length walk.now ≤ 31 }
-    requires its_own { fabric.old ≡ fabric_of machine.old }
-    ensures ok { IfOk result (λ x. injected (asked machine.old host walk.now looped).1 host ≡ (x, machine.new)) }
-    ensures err { OnErr result (machine.new ≡ machine.old) }
-    ensures follows { fabric.new ≡ fabric_of machine.new }
-{
-    let planned = machine.next_pull();
-    let effect = machine.probe(alloc, host, walk, looped)?;
     strike(fabric, planned, &effect);
     Ok(effect)
 }

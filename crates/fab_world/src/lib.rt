@@ -40,6 +40,7 @@ pub use adopted_routes::AdoptRefusal;
 pub use client_host::{Message, Said, TokenPlace};
 pub use clients::PortAt;
 pub use faulty_links::{Hop, Run};
+pub use machine::Probed;
 pub use port_graph::{Fabric, RouteSet};
 pub use world::World;
 pub use world_defs::{Cause, ClientCause, Effect, Event, Fault, Heard};

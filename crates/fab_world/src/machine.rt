@@ -22,6 +22,7 @@ use adopted_routes::AdoptedRoutes;
 use client_host::{ClientHost, end_hosts, new_hosts};
 use faulty_links::FaultyLinks;
 use port_graph::Fabric;
+pub use probing::Probed;
 use std::alloc::{AllocError, Global};
 use std::marker::Model;
 

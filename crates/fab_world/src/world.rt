@@ -1,7 +1,7 @@
 //! The world.
 
 ghost use Rattle.std.specs.Prelude.{◌≡◌, ◌≢◌, ◌≤◌, ℕ, length, true, option_map, IfOk};
-ghost use Rattle.std.specs.Prelude.{false, option_copied, OnOk, OnErr};
+ghost use Rattle.std.specs.Prelude.{false, is_some, option_copied, IfSome, IfNone, OnOk, OnErr};
 ghost use Rattle.world_defs.specs.History.{fabric_at};
 ghost use Rattle.world_defs.specs.Later.{OnlyPulled, IsLater};
 ghost use Rattle.world_defs.specs.declared.moved.Moved.TheVariants.{To};
@@ -20,6 +20,7 @@ ghost use Rattle.world_defs.specs.Sound.{IsSound};
 ghost use Rattle.adopted_routes.specs.Adopting.{IsAdoptable, adopt_refusal, part_count_for};
 ghost use Rattle.fab_world.specs.Events.{IsHostOf, IsChannelOf, IsGiven, takes_memory};
 ghost use Rattle.fab_world.specs.Held.{IsMoment, IsOfHosts, is_refusal};
+ghost use Rattle.fab_world.specs.Carried.{IsCarriedIn, clear_way};
 ghost use Rattle.fab_world.specs.Hop.{IsHopIn, IsRunIn};
 ghost use Rattle.fab_world.specs.Moments.{AreBuffersUntouched, AreQueuesUnfinished};
 
@@ -27,7 +28,7 @@ mod reading;
 
 use crate::changing;
 use crate::eight_bits::{flips_have_a_byte, pattern_is_a_byte};
-use crate::machine::Machine;
+use crate::machine::{Machine, Probed};
 use adopted_routes::AdoptRefusal;
 use faulty_links::{Hop, Run};
 use net_defs::Walk;
@@ -97,9 +98,11 @@ impl World {
         changing::step(&mut self.fabric, &mut self.machine, alloc, &e)
     }
 
-    /// A host stages a probe by a walk, in the place of what it has staged, and puts it into its channel:
-    /// [`World::step`] of [`Event::Ask`] and then of [`Event::Inject`], whose effect it answers. Running out of memory
-    /// changes nothing. With its parts it stands in its callers, where no packet is moved from one to the other.
+    /// A host stages a probe by a walk and puts it into its channel, and the packet goes to its end, all at once:
+    /// [`World::step`] of [`Event::Ask`], of [`Event::Inject`], and of the advances of the packet. None exactly where
+    /// another packet is in the links, a fault is planned for this one, no injection is left, or the host has no channel
+    /// or something staged; then nothing has happened. The packet stands in no channel on its way. Running out of memory
+    /// changes nothing.
     #[inline(always)]
     pub fn probe(
         &mut self,
@@ -107,23 +110,18 @@ impl World {
         host: u16,
         walk: &Walk,
         looped: bool,
-    ) -> Result<Effect, AllocError>
+    ) -> Result<Option<Probed>, AllocError>
         requires there { IsHostOf self.old host }
         requires short { looped ≡ true → length walk.now ≤ 31 }
-        ensures ok { IfOk result (λ x.
-            step (step self.old (Ask host walk.now looped)).1 (Inject host) ≡ (x, self.new)) }
+        ensures carried { IfOk result (λ o. IfSome o (λ p. IsCarriedIn
+            (step self.old (Ask host walk.now looped)).1 host p.number p.hops p.effect self.new)) }
+        ensures none { IfOk result (λ o. IfNone o (self.new ≡ self.old)) }
+        ensures exactly { IfOk result (λ o. is_some o ≡ is_some (clear_way self.old host)) }
         ensures err { OnErr result (self.new ≡ self.old) }
-        ensures cables { OnlyPulled self.old.links.cables self.new.links.cables }
+        ensures cables { self.new.links.cables ≡ self.old.links.cables }
         ensures hosts { host_count self.new ≡ host_count self.old }
     {
-        changing::probe(
-            &mut self.fabric,
-            &mut self.machine,
-            alloc,
-            host,
-            walk,
-            looped,
-        )
+        self.machine.probe(alloc, host, walk, looped)
     }
 
     /// [`World::step`] of [`Event::Inject`]. Running out of memory changes nothing.

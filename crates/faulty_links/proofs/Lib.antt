@@ -2,3 +2,4 @@ pub mod Arrivals
 pub mod HopsBelow
 pub mod Keys
 pub mod Parts
+pub mod Clear

@@ -1,10 +1,11 @@
 -- The part of a world that its links keep: what the channels and limbo hold, the plan of faults, and the counts.
-use Rattle.std.specs.Prelude.{◌≡◌, ℕ, ◌+◌, ◌||◌, Bool, true, false, not, nat_le, List, Option, Some, None, is_some}
-use Rattle.std.specs.Prelude.{if◌then◌else◌}
+use Rattle.std.specs.Prelude.{◌≡◌, ℕ, ◌+◌, ◌&&◌, ◌||◌, Bool, true, false, not, nat_eq, nat_le, List, Option, Some, None}
+use Rattle.std.specs.Prelude.{is_some, is_none, if◌then◌else◌}
+use Rattle.std.specs.Map.{lookup}
 use Rattle.net_defs.specs.declared.vertex.End.{End}
 use Rattle.world_defs.specs.declared.moved.Moved.{Moved}
 use Rattle.world_defs.specs.declared.moved.Moved.TheVariants.{AtHost}
-use Rattle.world_defs.specs.Links.{LinkState, packet_in, put}
+use Rattle.world_defs.specs.Links.{LinkState, packet_in, is_idle, put}
 use Rattle.world_defs.specs.Advance.{advance}
 use Rattle.world_defs.specs.declared.effect.Effect.TheVariants.{Idle, Injected, Moved as MovedTo, Blocked}
 use Rattle.world_defs.specs.declared.fault.Fault.{Fault}
@@ -81,6 +82,14 @@ part_of links plan counts = record {
 -- a channel is empty, and an injection is left for it
 abbrev pub can_inject : LinksAndPlan → ℕ → Bool
 can_inject p c = not (is_some (packet_in p.links c) || nat_le last_count p.injected)
+
+-- no channel holds a packet, an injection is left, and no fault is planned for it
+abbrev pub is_clear : LinksAndPlan → Bool
+is_clear p = is_idle p.links && (not (nat_le last_count p.injected) && is_none (lookup (nat_eq (p.injected + 1)) p.plan))
+
+-- the part after one injection more, whose packet is in no channel any more
+abbrev pub one_injected : LinksAndPlan → LinksAndPlan
+one_injected p = record p { injected = p.injected + 1 }
 
 -- the port at which a planned fault pulls a cable, where it is a pull
 abbrev pub pull_end : Option Fault → Option End

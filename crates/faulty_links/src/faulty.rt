@@ -10,7 +10,7 @@ ghost use Rattle.world_defs.specs.Fault.{next_limbo};
 ghost use Rattle.link_model.specs.FullSlots.{full_count, IsLone};
 ghost use Rattle.link_model.specs.Full.{next_full, IsNextFull};
 ghost use Rattle.world_defs.specs.World.{new_world};
-ghost use Rattle.faulty_links.specs.Held.{of_world, can_inject};
+ghost use Rattle.faulty_links.specs.Held.{of_world, can_inject, is_clear};
 
 mod advance;
 mod cables;
@@ -122,6 +122,18 @@ impl FaultyLinks {
         ensures { result ≡ can_inject self.now c }
     {
         self.links.peek(c).is_none() && self.counts.injected() < u64::MAX
+    }
+
+    /// Whether the next packet to be injected would be alone and unharmed: no channel holds a packet, an injection is
+    /// left, and no fault is planned for it.
+    #[inline(always)]
+    pub fn is_clear(&self) -> bool
+        ensures { result ≡ is_clear self.now }
+    {
+        if !self.links.idle() || self.counts.injected() == u64::MAX {
+            return false;
+        }
+        self.plan.at(self.counts.injected() + 1).is_none()
     }
 
     /// How many injections there were.

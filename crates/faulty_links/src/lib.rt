@@ -31,5 +31,5 @@ mod reach;
 
 pub use faulty::FaultyLinks;
 pub use laws::{injections_of_hosts, parts_of_worlds};
-pub use link_model::{Hop, Run};
+pub use link_model::{Carried, Hop, Run};
 pub use world_defs::{Cause, Effect, Fault};

@@ -1,5 +1,6 @@
 pub mod Alone
 pub mod Cables
+pub mod Carrying
 pub mod Limbos
 pub mod NextFull
 pub mod Runs

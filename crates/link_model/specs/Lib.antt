@@ -1,4 +1,5 @@
 pub mod Alone
+pub mod Carried
 pub mod Full
 pub mod Hop
 pub mod State

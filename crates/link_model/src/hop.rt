@@ -1,4 +1,6 @@
-//! What a hop came to, and a run of hops.
+//! What a hop came to, a run of hops, and a packet carried to its end.
+
+use world_defs::Why;
 
 /// What a hop made of a channel's packet.
 #[derive(Clone, Copy, Debug, PartialEq, Eq)]
@@ -18,4 +20,13 @@ pub struct Run {
     pub hops: u16,
     /// The channel that it is in now.
     pub at: u16,
+}
+
+/// How a packet went through idle links.
+#[derive(Clone, Copy, Debug, PartialEq, Eq)]
+pub struct Carried {
+    /// How many channels it entered after its first.
+    pub hops: u16,
+    /// The host that it reached, or why a switch dropped it.
+    pub end: Result<u16, Why>,
 }

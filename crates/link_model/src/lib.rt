@@ -15,7 +15,7 @@
 //! |---|---|
 //! | `slots` | what channels hold, a packet each or none, with an index of the full ones; it knows no cable |
 //! | `course` | where a channel's packet goes |
-//! | `hop` | what a hop came to, and a run of hops |
+//! | `hop` | what a hop came to, a run of hops, and a packet carried to its end |
 //! | `limbo` | the packets that a cable keeps back |
 //! | `links` | the links: reading them, filling them, an advance, the faults |
 //! | `walking` | a packet alone in the links, to the end of its walk |
@@ -28,7 +28,7 @@ mod links;
 mod slots;
 mod walking;
 
-pub use hop::{Hop, Run};
+pub use hop::{Carried, Hop, Run};
 pub use links::{Links, Occupied};
 pub(crate) use slots::{Slot, Slots};
 pub use walking::walk_alone;

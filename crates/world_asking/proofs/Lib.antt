@@ -1,3 +1,4 @@
+pub mod Sends
 pub mod Standing
 pub mod Tries
 pub mod Truthful

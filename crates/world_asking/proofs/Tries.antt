@@ -1,10 +1,13 @@
 -- Tries in a row, under way.
-use Rattle.std.proofs.Common.{◌≡◌, ◌<◌, ◌-◌, ℕ, zero, suc, Bool, true, false, ◌&&◌, refl, sym, ◌∙◌, ap, arith, if◌then◌else◌}
+use Rattle.std.proofs.Common.{◌≡◌, ◌<◌, ◌-◌, ℕ, ℤ, zero, suc, List, ◌∷◌, Bool, true, false, ◌&&◌, refl, sym, ◌∙◌, ap, arith, if◌then◌else◌}
 use Rattle.world_defs.specs.World.{WorldState, host_count}
-use Rattle.world_defs.specs.Step.{after_all}
+use Rattle.world_defs.specs.declared.event.Event.TheVariants.{Ask}
+use Rattle.world_defs.specs.Step.{step, after_all}
+use Rattle.world_defs.specs.Logs as log
 use Rattle.world_defs.specs.Log.{Log, told, and_do}
 use Rattle.world_defs.specs.Logs.{Tried, tries}
 use Rattle.world_defs.specs.Row.{IsPartWay}
+use Rattle.log_laws.proofs.PartWay.{way-front}
 use Rattle.log_laws.proofs.UpTo.{up_to-on, up_to-within}
 use Rattle.log_laws.proofs.UnderWay.{UnderWay, under_way-none, under_way-on, under_way-cut, behind}
 
@@ -72,3 +75,12 @@ pub trying-all : {A : Type 0} (is_found : A → Bool) (nothing : A) (one : World
 trying-all is_found nothing one k first now left harmed t none =
     let whole = sym (t.way.all ∙ ap (λ n. behind (also harmed) t.way.done (tries is_found nothing one n now)) none) in
     (ap (λ l. l.value.found) whole, sym (and-true harmed) ∙ ap (λ l. l.value.harmed) whole, ap (λ l. l.world) whole)
+
+-- ---- along the probe of one try
+pub host_try-sent : (mapper : ℕ) (walk : List ℤ) (w v : WorldState) → IsPartWay w (Ask mapper walk false ∷ (log.sends mapper (step w (Ask mapper walk false)).1).events) v → IsPartWay w (log.host_try mapper walk w).events v
+unfolding log.host_try
+host_try-sent mapper walk w v p = way-front w v (Ask mapper walk false ∷ (log.sends mapper (step w (Ask mapper walk false)).1).events) _ p
+
+pub loop_try-sent : (mapper : ℕ) (walk : List ℤ) (w v : WorldState) → IsPartWay w (Ask mapper walk true ∷ (log.sends mapper (step w (Ask mapper walk true)).1).events) v → IsPartWay w (log.loop_try mapper walk w).events v
+unfolding log.loop_try
+loop_try-sent mapper walk w v p = way-front w v (Ask mapper walk true ∷ (log.sends mapper (step w (Ask mapper walk true)).1).events) _ p

@@ -11,12 +11,14 @@
 //!
 //! | module | has |
 //! |---|---|
+//! | `sending` | a packet that a host sends, and what comes of it |
 //! | `trying`, `asking` | the tries of a probe, and an ask |
 //! | `prober` | the mapper over a world |
 #![tactic(auto)]
 
 mod asking;
 mod prober;
+mod sending;
 mod trying;
 
 pub use prober::WorldProber;

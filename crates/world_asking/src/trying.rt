@@ -2,24 +2,14 @@
 
 ghost use Rattle.std.specs.Prelude.{◌≡◌, ◌≤◌, ◌&&◌, length, true, false, is_some, None, IfOk, OnOk, OnErr};
 ghost use Rattle.world_defs.specs.World.{host_count};
-ghost use Rattle.world_defs.specs.Step.{step};
-ghost use Rattle.world_defs.specs.declared.event.Event.TheVariants.{Ask, Inject};
-ghost use Rattle.world_defs.specs.Asking.{is_used_up, number_of};
 ghost use Rattle.world_defs.specs.Logs as log;
 ghost use Rattle.world_defs.specs.Row.{IsPartWay};
 ghost use Rattle.fab_world.specs.Events.{IsHostOf};
 
+use crate::sending::{send_probe, send_reply};
 use fab_world::World;
-use net_defs::{End, Vertex, Walk};
+use net_defs::Walk;
 use std::alloc::{AllocError, Global};
-use world_drain::{Watch, drain_watching};
-
-/// A host's injection: whether no injection was left for it, and its number.
-#[derive(Clone, Copy)]
-struct Injection {
-    used_up: bool,
-    number: Option<u64>,
-}
 
 /// What tries of a host probe came to: the host that replied, and whether a fault met each of them.
 #[derive(Clone, Copy)]
@@ -113,7 +103,7 @@ pub(crate) fn loop_tries(
 }
 
 // One try of a host probe: the probe alone, and then the reply of the host that heard it.
-#[tactic(auto, unfolding(world_defs::specs::Logs::host_try, world_defs::specs::Logs::sends))]
+#[tactic(auto, unfolding(world_defs::specs::Logs::host_try))]
 fn host_try(alloc: Global, w: &mut World, mapper: u16, walk: &Walk) -> Result<HostTry, AllocError>
     requires there { IsHostOf w.old mapper }
     ensures found { IfOk result (λ t. t.found ≡ (log.host_try mapper walk.now w.old).value.found) }
@@ -124,28 +114,21 @@ fn host_try(alloc: Global, w: &mut World, mapper: u16, walk: &Walk) -> Result<Ho
 {
     let before = w.harmed();
     let probe = send_probe(alloc, w, mapper, walk, false)?;
-    let watch = Watch {
-        mapper,
-        number: probe.number,
-        part: None,
-    };
-    let seen = drain_watching(alloc, w, watch)?;
-    let Some(host) = seen.probed else {
+    let Some(host) = probe.probed else {
         return Ok(HostTry {
             found: None,
             harmed: probe.used_up || before < w.harmed(),
         });
     };
-    let reply = inject(alloc, w, host)?;
-    let answered = drain_watching(alloc, w, watch)?;
+    let reply = send_reply(alloc, w, host, mapper, probe.number)?;
     Ok(HostTry {
-        found: answered.replied,
+        found: reply.replied,
         harmed: probe.used_up || reply.used_up || before < w.harmed(),
     })
 }
 
 // One try of a loopback probe.
-#[tactic(auto, unfolding(world_defs::specs::Logs::loop_try, world_defs::specs::Logs::sends))]
+#[tactic(auto, unfolding(world_defs::specs::Logs::loop_try))]
 fn loop_try(alloc: Global, w: &mut World, mapper: u16, walk: &Walk) -> Result<LoopTry, AllocError>
     requires there { IsHostOf w.old mapper }
     requires short { length walk.now ≤ 31 }
@@ -157,66 +140,10 @@ fn loop_try(alloc: Global, w: &mut World, mapper: u16, walk: &Walk) -> Result<Lo
 {
     let before = w.harmed();
     let probe = send_probe(alloc, w, mapper, walk, true)?;
-    let watch = Watch {
-        mapper,
-        number: probe.number,
-        part: None,
-    };
-    let seen = drain_watching(alloc, w, watch)?;
     Ok(LoopTry {
-        found: seen.returned,
+        found: probe.returned,
         harmed: probe.used_up || before < w.harmed(),
     })
-}
-
-// Stages a probe of a walk at a host, which puts it into its channel. Running out of memory changes nothing. It
-// stands in both tries, most of whose cost it is.
-#[inline(always)]
-fn send_probe(
-    alloc: Global,
-    w: &mut World,
-    host: u16,
-    walk: &Walk,
-    looped: bool,
-) -> Result<Injection, AllocError>
-    requires there { IsHostOf w.old host }
-    requires short { looped ≡ true → length walk.now ≤ 31 }
-    ensures used { IfOk result (λ i. i.used_up ≡ is_used_up (step w.old (Ask host walk.now looped)).1 host) }
-    ensures number { IfOk result (λ i. i.number
-        ≡ number_of (step (step w.old (Ask host walk.now looped)).1 (Inject host)).0) }
-    ensures after { OnOk result (w.new ≡ (step (step w.old (Ask host walk.now looped)).1 (Inject host)).1) }
-    ensures err { OnErr result (w.new ≡ w.old) }
-    ensures hosts { host_count w.new ≡ host_count w.old }
-{
-    let used_up = is_used_up(w, host);
-    let number = world_drain::probe(alloc, w, host, walk, looped)?;
-    Ok(Injection { used_up, number })
-}
-
-// A host puts what it has to send first into its channel. Running out of memory changes nothing.
-fn inject(alloc: Global, w: &mut World, host: u16) -> Result<Injection, AllocError>
-    requires there { IsHostOf w.old host }
-    ensures used { IfOk result (λ i. i.used_up ≡ is_used_up w.old host) }
-    ensures number { IfOk result (λ i. i.number ≡ number_of (step w.old (Inject host)).0) }
-    ensures after { OnOk result (w.new ≡ (step w.old (Inject host)).1) }
-    ensures err { OnErr result (w.new ≡ w.old) }
-    ensures hosts { host_count w.new ≡ host_count w.old }
-{
-    let used_up = is_used_up(w, host);
-    let number = world_drain::inject(alloc, w, host)?;
-    Ok(Injection { used_up, number })
-}
-
-// Whether a host has a channel, but no injection is left.
-fn is_used_up(w: &World, host: u16) -> bool
-    requires { IsHostOf w.now host }
-    ensures { result ≡ is_used_up w.now host }
-{
-    let port = End {
-        v: Vertex::Host(host),
-        p: 0,
-    };
-    w.channel_from(port).is_some() && w.injected() == u64::MAX
 }
 
 // Whether both hold.

@@ -1,16 +1,15 @@
 //! One event.
 
-ghost use Rattle.std.specs.Prelude.{◌≡◌, ◌≤◌, length, true, IfOk, OnOk, OnErr};
+ghost use Rattle.std.specs.Prelude.{◌≡◌, ◌≤◌, length, IfOk, OnOk, OnErr};
 ghost use Rattle.world_defs.specs.Later.{OnlyPulled, IsLater};
 ghost use Rattle.world_defs.specs.World.{host_count};
-ghost use Rattle.world_defs.specs.declared.event.Event.TheVariants.{Ask, Inject};
+ghost use Rattle.world_defs.specs.declared.event.Event.TheVariants.{Inject};
 ghost use Rattle.world_defs.specs.Drain.{changed};
 ghost use Rattle.world_defs.specs.Step.{step};
 ghost use Rattle.world_defs.specs.Asking.{number_of};
 ghost use Rattle.fab_world.specs.Events.{IsGiven, IsHostOf};
 
 use fab_world::{Effect, Event, World};
-use net_defs::Walk;
 use std::alloc::{AllocError, Global};
 
 /// One event whose effect doesn't matter. Running out of memory changes nothing.
@@ -37,29 +36,6 @@ pub fn inject(alloc: Global, w: &mut World, host: u16) -> Result<Option<u64>, Al
     ensures hosts { host_count w.new ≡ host_count w.old }
 {
     let effect = w.inject(alloc, host)?;
-    Ok(number_of(&effect))
-}
-
-/// An ask of a host, and its injection: the number of the probe's packet, where that entered the host's channel.
-/// Running out of memory changes nothing.
-#[inline(always)]
-pub fn probe(
-    alloc: Global,
-    w: &mut World,
-    host: u16,
-    walk: &Walk,
-    looped: bool,
-) -> Result<Option<u64>, AllocError>
-    requires there { IsHostOf w.old host }
-    requires short { looped ≡ true → length walk.now ≤ 31 }
-    ensures number { IfOk result (λ n. n
-        ≡ number_of (step (step w.old (Ask host walk.now looped)).1 (Inject host)).0) }
-    ensures after { OnOk result (w.new ≡ (step (step w.old (Ask host walk.now looped)).1 (Inject host)).1) }
-    ensures err { OnErr result (w.new ≡ w.old) }
-    ensures cables { OnlyPulled w.old.links.cables w.new.links.cables }
-    ensures hosts { host_count w.new ≡ host_count w.old }
-{
-    let effect = w.probe(alloc, host, walk, looped)?;
     Ok(number_of(&effect))
 }
 

@@ -40,6 +40,6 @@ mod seen;
 pub use clearing::clear;
 pub use draining::{drain, drain_watching};
 pub use giving_up::give_up_all;
-pub use happening::{happen, inject, probe};
+pub use happening::{happen, inject};
 pub use rounds::{Settled, settle};
 pub use seen::{AwaitedPart, Seen, Watch};

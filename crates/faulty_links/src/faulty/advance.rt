@@ -1,14 +1,18 @@
 //! One step of a channel.
 
-ghost use Rattle.std.specs.Prelude.{◌≡◌, ◌≢◌, ◌<◌, ◌≤◌, ℕ, length, None, option_map, IfSome};
+ghost use Rattle.std.specs.Prelude.{◌≡◌, ◌≢◌, ◌<◌, ◌≤◌, ℕ, length, true, None, option_map, IfSome};
+ghost use Rattle.world_defs.specs.Links.{is_idle};
 ghost use Rattle.world_defs.specs.Advance.{advance};
 ghost use Rattle.link_model.specs.FullSlots.{IsLone};
-ghost use Rattle.world_defs.specs.World.{WorldState};
-ghost use Rattle.world_defs.specs.Step.{advanced, cause_at_switch, cause_at_host};
+ghost use Rattle.link_model.specs.Carried.{IsCarried};
+ghost use Rattle.world_defs.specs.Node.{NodeState};
+ghost use Rattle.world_defs.specs.World.{WorldState, last_count, with_node};
+ghost use Rattle.world_defs.specs.Step.{advanced, arrived, cause_at_switch, cause_at_host};
 ghost use Rattle.faulty_links.specs.Held.{with_part, reaching, IsHeardAt, IsToldOf, CountsDrop, IsHopOf, IsRunOf};
+ghost use Rattle.faulty_links.specs.Held.{one_injected};
 
 use super::FaultyLinks;
-use link_model::{Hop, Run};
+use link_model::{Carried, Hop, Run};
 use myri_packet::Packet;
 use net_defs::Vertex;
 use packet_defs::HostDrop;
@@ -81,6 +85,54 @@ impl FaultyLinks {
         ensures { IsToldOf self.old c host arrival result self.new }
     {
         let _ = self.lose(c);
+        self.tell(host, arrival)
+    }
+
+    /// How a packet would go that was put into a channel of idle links: to a host, or to a switch that drops it.
+    #[inline(always)]
+    pub fn carry(&self, c: u16, packet: &mut Packet) -> Carried
+        requires there { c < length self.now.links.channels }
+        requires idle { is_idle self.now.links ≡ true }
+        ensures { IsCarried self.now.links c packet.old result.hops result.end packet.new }
+    {
+        self.links.carry(c, packet)
+    }
+
+    /// A host heard a packet that was injected and carried to it at once, which counts: what is told of it.
+    #[inline(always)]
+    pub fn heard_alone(&mut self, host: u16, arrival: Arrival) -> Effect
+        requires { self.old.injected < last_count }
+        ensures { (w : WorldState) (n : NodeState) → arrived (with_part w (one_injected self.old)) host (arrival, n)
+            ≡ (result, with_part (with_node w host n) self.new) }
+    {
+        self.count_injection();
+        self.tell(host, arrival)
+    }
+
+    /// A switch dropped a packet that was injected and carried to it at once, which counts: what is told of it.
+    #[inline(always)]
+    pub fn dropped_alone(&mut self, why: Why) -> Effect
+        requires { self.old.injected < last_count }
+        ensures effect { result ≡ Effect.Dropped (cause_at_switch why) }
+        ensures after { CountsDrop (one_injected self.old) self.new }
+    {
+        self.count_injection();
+        self.drop_for(cause_at_switch(why))
+    }
+
+    // A packet was injected, and is in no channel any more.
+    fn count_injection(&mut self)
+        requires { self.old.injected < last_count }
+        ensures { self.new ≡ one_injected self.old }
+    {
+        self.counts.inject();
+    }
+
+    // What is told of a packet that a host heard, and that is in no channel any more: one that it dropped is counted.
+    fn tell(&mut self, host: u16, arrival: Arrival) -> Effect
+        ensures { (w : WorldState) (n : NodeState) → arrived (with_part w self.old) host (arrival, n)
+            ≡ (result, with_part (with_node w host n) self.new) }
+    {
         match arrival {
             Arrival::Heard(heard) => Effect::Arrived(host, heard),
             Arrival::Dropped(why) => self.drop_for(cause_at_host(why)),

@@ -1,18 +1,19 @@
 //! One step of a channel.
 
-ghost use Rattle.std.specs.Prelude.{◌≡◌, ◌≢◌, ◌<◌, ◌≤◌, ℕ, length, Some, IsSome, option_map, option_and_then};
+ghost use Rattle.std.specs.Prelude.{◌≡◌, ◌≢◌, ◌<◌, ◌≤◌, ℕ, length, true, Some, IsSome, option_map, option_and_then};
 ghost use Rattle.std.specs.Prelude.{if◌then◌else◌};
-ghost use Rattle.world_defs.specs.Links.{packet_in, emptied};
+ghost use Rattle.world_defs.specs.Links.{packet_in, emptied, is_idle};
 ghost use Rattle.world_defs.specs.Advance.{advance, course};
 ghost use Rattle.link_model.specs.FullSlots.{IsLone};
 ghost use Rattle.link_model.specs.Hop.{IsHop, IsRun, entered_by};
+ghost use Rattle.link_model.specs.Carried.{IsCarried, course_to};
 
 use super::Links;
 use crate::Slot;
 use crate::course::{course, follow, next_channel, turned, without_turn};
-use crate::hop::{Hop, Run};
+use crate::hop::{Carried, Hop, Run};
 use myri_packet::Packet;
-use world_defs::{Course, Moved};
+use world_defs::{Course, Moved, Why};
 
 impl Links {
     /// One step of a channel: its packet goes on through a switch, to its host, or nowhere. `Blocked` where the next
@@ -63,6 +64,21 @@ impl Links {
         let slot = Slot::from_parts(packet, marked, born);
         self.slots.put(usize::from(run.at), slot);
         run
+    }
+
+    /// How a packet would go that was put into a channel of idle links: from channel to channel, to a host or to a switch
+    /// that drops it. It stands in no channel on its way, and each switch strips the turn that it takes.
+    #[inline(always)]
+    pub fn carry(&self, c: u16, packet: &mut Packet) -> Carried
+        requires there { c < length self.now.channels }
+        requires idle { is_idle self.now ≡ true }
+        ensures { IsCarried self.now c packet.old result.hops result.end packet.new }
+    {
+        let run = follow(&self.wiring, c, packet);
+        Carried {
+            hops: run.hops,
+            end: end_of(course(&self.wiring, run.at, packet)),
+        }
     }
 
     // Where a channel's packet goes.
@@ -154,5 +170,17 @@ impl Links {
         ensures links { self.new ≡ emptied self.old c }
     {
         self.slots.take(usize::from(c)).unwrap()
+    }
+}
+
+// The end of a packet that enters no further channel.
+fn end_of(to: Course) -> Result<u16, Why>
+    requires { (next : ℕ) → to ≢ Course.Enters next }
+    ensures { course_to result ≡ to }
+{
+    match to {
+        Course::Arrives(h) => Ok(h),
+        Course::Drops(why) => Err(why),
+        Course::Enters(_) => unreachable!(),
     }
 }
