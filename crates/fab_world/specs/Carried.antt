@@ -17,7 +17,8 @@ use Rattle.fab_world.specs.Hop.{IsRunIn}
 
 -- the channel of a host, where a packet that it injects is alone and unharmed, and it has nothing staged
 abbrev pub clear_way : WorldState → ℕ → Option ℕ
-clear_way w h = if is_clear (of_world w) && not (has_staged (node_at w h)) then leaving w.links.cables (host_port h) else None
+clear_way w h =
+    if is_clear (of_world w) && not (has_staged (node_at w h)) then leaving w.links.cables (host_port h) else None
 
 -- the world after one injection more, whose packet is in no channel any more
 abbrev pub one_injected : WorldState → WorldState

@@ -100,9 +100,9 @@ impl World {
 
     /// A host stages a probe by a walk and puts it into its channel, and the packet goes to its end, all at once:
     /// [`World::step`] of [`Event::Ask`], of [`Event::Inject`], and of the advances of the packet. None exactly where
-    /// another packet is in the links, a fault is planned for this one, no injection is left, or the host has no channel
-    /// or something staged; then nothing has happened. The packet stands in no channel on its way. Running out of memory
-    /// changes nothing.
+    /// another packet is in the links, a fault is planned for this one, no injection is left, or the host has no
+    /// channel or something staged; then nothing has happened. The packet stands in no channel on its way. Running out
+    /// of memory changes nothing.
     #[inline(always)]
     pub fn probe(
         &mut self,

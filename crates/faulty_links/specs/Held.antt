@@ -85,7 +85,8 @@ can_inject p c = not (is_some (packet_in p.links c) || nat_le last_count p.injec
 
 -- no channel holds a packet, an injection is left, and no fault is planned for it
 abbrev pub is_clear : LinksAndPlan → Bool
-is_clear p = is_idle p.links && (not (nat_le last_count p.injected) && is_none (lookup (nat_eq (p.injected + 1)) p.plan))
+is_clear p =
+    is_idle p.links && (not (nat_le last_count p.injected) && is_none (lookup (nat_eq (p.injected + 1)) p.plan))
 
 -- the part after one injection more, whose packet is in no channel any more
 abbrev pub one_injected : LinksAndPlan → LinksAndPlan

@@ -20,9 +20,10 @@ abbrev pub ended : Result ℕ Why → List ℕ → Moved (List ℕ)
 ended (Ok h) wire = AtHost h wire
 ended (Err why) wire = Dropped why
 
--- A packet with these bytes, put into a channel of idle links, is alone there; in so many hops it comes to a channel, by
--- then with those bytes; and its next advance is its end and leaves the links as they were.
-pub record IsCarried (s : LinkState) (c : ℕ) (wire : List ℕ) (hops : ℕ) (end : Result ℕ Why) (now : List ℕ) : Type 0 where
+-- A packet with these bytes, put into a channel of idle links, is alone there; in so many hops it comes to a channel,
+-- by then with those bytes; and its next advance is its end and leaves the links as they were.
+pub record IsCarried (s : LinkState) (c : ℕ) (wire : List ℕ) (hops : ℕ) (end : Result ℕ Why) (now : List ℕ)
+    : Type 0 where
   pub at : ℕ
   pub enters : IsLone (put s c wire).1.channels c
   pub run : IsRun (put s c wire).1 c hops at (put s at now).1

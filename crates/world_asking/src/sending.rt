@@ -31,9 +31,9 @@ pub(crate) struct SentReply {
     pub(crate) replied: Option<u16>,
 }
 
-/// A host sends a probe of a walk, and all packets run out. The probe is carried to its end at once where it is alone and
-/// unharmed; else it is staged and goes from channel to channel. Running out of memory leaves
-/// a world that a prefix of the events leads to.
+/// A host sends a probe of a walk, and all packets run out. The probe is carried to its end at once where it is alone
+/// and unharmed; else it is staged and goes from channel to channel. Running out of memory leaves a world that a prefix
+/// of the events leads to.
 #[inline(always)]
 pub(crate) fn send_probe(
     alloc: Global,
@@ -44,11 +44,15 @@ pub(crate) fn send_probe(
 ) -> Result<SentProbe, AllocError>
     requires there { IsHostOf w.old host }
     requires short { looped ≡ true → length walk.now ≤ 31 }
-    ensures used { IfOk result (λ p. p.used_up ≡ (log.sends host (step w.old (Ask host walk.now looped)).1).value.used_up) }
-    ensures number { IfOk result (λ p. p.number ≡ (log.sends host (step w.old (Ask host walk.now looped)).1).value.number) }
-    ensures probed { IfOk result (λ p. p.probed ≡ probed_host (log.sends host (step w.old (Ask host walk.now looped)).1).value.effects) }
+    ensures used { IfOk result (λ p.
+        p.used_up ≡ (log.sends host (step w.old (Ask host walk.now looped)).1).value.used_up) }
+    ensures number { IfOk result (λ p.
+        p.number ≡ (log.sends host (step w.old (Ask host walk.now looped)).1).value.number) }
+    ensures probed { IfOk result (λ p.
+        p.probed ≡ probed_host (log.sends host (step w.old (Ask host walk.now looped)).1).value.effects) }
     ensures returned { IfOk result (λ p. p.returned ≡ returned_in host
-        (log.sends host (step w.old (Ask host walk.now looped)).1).value.number (log.sends host (step w.old (Ask host walk.now looped)).1).value.effects) }
+        (log.sends host (step w.old (Ask host walk.now looped)).1).value.number
+        (log.sends host (step w.old (Ask host walk.now looped)).1).value.effects) }
     ensures heard { IfOk result (λ p. IfSome p.probed (λ h. h < host_count w.old)) }
     ensures after { OnOk result (w.new ≡ (log.sends host (step w.old (Ask host walk.now looped)).1).world) }
     ensures err { OnErr result (IsPartWay w.old (Ask host walk.now looped
@@ -111,11 +115,15 @@ fn send_staged(
 ) -> Result<SentProbe, AllocError>
     requires there { IsHostOf w.old host }
     requires short { looped ≡ true → length walk.now ≤ 31 }
-    ensures used { IfOk result (λ p. p.used_up ≡ (log.sends host (step w.old (Ask host walk.now looped)).1).value.used_up) }
-    ensures number { IfOk result (λ p. p.number ≡ (log.sends host (step w.old (Ask host walk.now looped)).1).value.number) }
-    ensures probed { IfOk result (λ p. p.probed ≡ probed_host (log.sends host (step w.old (Ask host walk.now looped)).1).value.effects) }
+    ensures used { IfOk result (λ p.
+        p.used_up ≡ (log.sends host (step w.old (Ask host walk.now looped)).1).value.used_up) }
+    ensures number { IfOk result (λ p.
+        p.number ≡ (log.sends host (step w.old (Ask host walk.now looped)).1).value.number) }
+    ensures probed { IfOk result (λ p.
+        p.probed ≡ probed_host (log.sends host (step w.old (Ask host walk.now looped)).1).value.effects) }
     ensures returned { IfOk result (λ p. p.returned ≡ returned_in host
-        (log.sends host (step w.old (Ask host walk.now looped)).1).value.number (log.sends host (step w.old (Ask host walk.now looped)).1).value.effects) }
+        (log.sends host (step w.old (Ask host walk.now looped)).1).value.number
+        (log.sends host (step w.old (Ask host walk.now looped)).1).value.effects) }
     ensures after { OnOk result (w.new ≡ (log.sends host (step w.old (Ask host walk.now looped)).1).world) }
     ensures err { OnErr result (IsPartWay w.old (Ask host walk.now looped
         ∷ (log.sends host (step w.old (Ask host walk.now looped)).1).events) w.new) }
@@ -155,8 +163,8 @@ fn send_first(alloc: Global, w: &mut World, host: u16) -> Result<SentProbe, Allo
     })
 }
 
-/// A host sends its reply to a mapper's probe of a number, and all packets run out. Running out of memory leaves a world
-/// that a prefix of the events leads to.
+/// A host sends its reply to a mapper's probe of a number, and all packets run out. Running out of memory leaves a
+/// world that a prefix of the events leads to.
 #[tactic(auto, unfolding(world_defs::specs::Logs::sends))]
 pub(crate) fn send_reply(
     alloc: Global,

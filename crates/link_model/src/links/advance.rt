@@ -66,8 +66,8 @@ impl Links {
         run
     }
 
-    /// How a packet would go that was put into a channel of idle links: from channel to channel, to a host or to a switch
-    /// that drops it. It stands in no channel on its way, and each switch strips the turn that it takes.
+    /// How a packet would go that was put into a channel of idle links: from channel to channel, to a host or to a
+    /// switch that drops it. It stands in no channel on its way, and each switch strips the turn that it takes.
     #[inline(always)]
     pub fn carry(&self, c: u16, packet: &mut Packet) -> Carried
         requires there { c < length self.now.channels }
