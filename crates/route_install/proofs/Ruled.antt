@@ -12,7 +12,7 @@ use Rattle.net_defs.specs.RouteSet.{route_below, AreRising}
 use Rattle.world_defs.specs.Mapping.{RouteEntry, is_route, are_entries, is_part}
 use Rattle.world_defs.specs.Table.{part_count}
 use Rattle.route_install.specs.Collecting.{is_fit}
-use Rattle.route_install.proofs.Cutting.{entry, rising-drop}
+use Rattle.route_install.proofs.Cutting.{all-take, entry, rising-drop, rising-take}
 
 -- a walk's turns are a route
 pub walk-route : (ts : List ℤ) → length ts ≤ 64 → All IsTurn ts → is_route ts ≡ true
@@ -48,20 +48,10 @@ rising-filter t (r ∷ rs) up = by (t r) (rising-filter t rs up.1)
     by true rest = (all-filter (λ s. route_below r s ≡ true) t rs up.0, rest)
     by false rest = rest
 
-all-take : (P : Route → Type 0) (k : ℕ) (rs : List Route) → AllByRecursion P rs → AllByRecursion P (take k rs)
-all-take P zero rs all = tt
-all-take P (suc k) [] all = tt
-all-take P (suc k) (r ∷ rs) all = (all.0, all-take P k rs all.1)
-
 all-drop : (P : Route → Type 0) (k : ℕ) (rs : List Route) → AllByRecursion P rs → AllByRecursion P (drop k rs)
 all-drop P zero rs all = all
 all-drop P (suc k) [] all = tt
 all-drop P (suc k) (r ∷ rs) all = all-drop P k rs all.1
-
-rising-take : (k : ℕ) (rs : List Route) → AreRising rs → AreRising (take k rs)
-rising-take zero rs up = tt
-rising-take (suc k) [] up = tt
-rising-take (suc k) (r ∷ rs) up = (all-take (λ s. route_below r s ≡ true) k rs up.0, rising-take k rs up.1)
 
 -- the routes from a host are from it
 all-from : (from : ℕ) (rs : List Route) → AllByRecursion (λ r. r.from ≡ from) (filter (λ r. nat_eq r.from from) rs)

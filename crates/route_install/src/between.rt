@@ -35,15 +35,19 @@ fn likely_walk(routes: &[Route], from: u16, to: u16) -> Option<&Walk>
 
 // The place of a route where each host up to the last sender has one to each other.
 fn likely_place(routes: &[Route], from: u16, to: u16) -> usize {
-    let others = match routes.last() {
-        Some(last) => usize::from(last.from),
-        None => 0,
-    };
-    let before = usize::from(from).wrapping_mul(others);
+    let before = likely_before(routes, usize::from(from));
     if to > from {
         before.wrapping_add(usize::from(to - 1))
     } else {
         before.wrapping_add(usize::from(to))
+    }
+}
+
+/// How many routes so many first hosts have, where each host up to the last sender has one to each other.
+pub(crate) fn likely_before(routes: &[Route], hosts: usize) -> usize {
+    match routes.last() {
+        Some(last) => hosts.wrapping_mul(usize::from(last.from)),
+        None => 0,
     }
 }
 

@@ -1,13 +1,14 @@
 //! Parts of a set of routes.
 
-ghost use Rattle.std.specs.Prelude.{◌≡◌, ℕ, ◌≤◌, ◌*◌, true, map, take, drop, length, nat_eq, IfOk, IfSome};
-ghost use Rattle.std.specs.List.{filter, list_all};
+ghost use Rattle.std.specs.Prelude.{◌≡◌, ℕ, ◌≤◌, ◌*◌, true, map, take, drop, length, nat_eq, nat_lt};
+ghost use Rattle.std.specs.Prelude.{IfOk, IfSome, IsTrue};
+ghost use Rattle.std.specs.List.{count_by, filter, list_all};
 ghost use Rattle.world_defs.specs.Mapping.{is_part, is_route};
 ghost use Rattle.net_defs.specs.RouteSet.{AreRising};
 ghost use Rattle.route_install.specs.Collecting.{is_fit};
 ghost use Rattle.world_defs.specs.Table.{entries_from, part_for, part_count, part_entries};
 
-use crate::between::walk_between;
+use crate::between::{likely_before, walk_between};
 use net_defs::{Route, Walk};
 use port_graph::RouteSet;
 use route_parts::{EntryList, RoutePart, TableEntry};
@@ -91,9 +92,58 @@ fn routes_from(routes: &[Route], from: u16) -> &[Route]
     requires { AreRising routes.now }
     ensures { result.now ≡ filter (λ r. nat_eq r.from from) routes.now }
 {
-    let begin = routes.partition_point(|r| r.from < from);
-    let behind = &routes[begin..];
-    &behind[..behind.partition_point(|r| r.from <= from)]
+    let from = usize::from(from);
+    let begin = count_below(routes, from);
+    let end = count_below(routes, from + 1);
+    &routes[begin..end]
+}
+
+// How many routes lesser hosts than a number have. Where each host up to the last sender has one to each other, no
+// search is made.
+fn count_below(routes: &[Route], limit: usize) -> usize
+    requires { AreRising routes.now }
+    ensures { result ≡ count_by (λ r. nat_lt r.from limit) routes.now }
+{
+    let likely = likely_before(routes, limit);
+    if is_count_below(routes, likely, limit) {
+        likely
+    } else {
+        routes.partition_point(|r| usize::from(r.from) < limit)
+    }
+}
+
+// Whether so many routes are those of lesser hosts than a number, by the last of them and the first of the others.
+fn is_count_below(routes: &[Route], count: usize, limit: usize) -> bool
+    requires { AreRising routes.now }
+    ensures { IsTrue result → count ≡ count_by (λ r. nat_lt r.from limit) routes.now }
+{
+    if count > routes.len() {
+        return false;
+    }
+    let (front, others) = routes.split_at(count);
+    ends_below(front, limit) && begins_from(others, limit)
+}
+
+// Whether the last of routes, if there is one, is of a lesser host than a number.
+fn ends_below(routes: &[Route], limit: usize) -> bool
+    requires { AreRising routes.now }
+    ensures { IsTrue result → count_by (λ r. nat_lt r.from limit) routes.now ≡ length routes.now }
+{
+    match routes.last() {
+        Some(r) => usize::from(r.from) < limit,
+        None => true,
+    }
+}
+
+// Whether the first of routes, if there is one, is of no lesser host than a number.
+fn begins_from(routes: &[Route], limit: usize) -> bool
+    requires { AreRising routes.now }
+    ensures { IsTrue result → count_by (λ r. nat_lt r.from limit) routes.now ≡ 0 }
+{
+    match routes.first() {
+        Some(r) => limit <= usize::from(r.from),
+        None => true,
+    }
 }
 
 // Entries of a table for these routes.
