@@ -1,4 +1,5 @@
 pub mod Cutting
 pub mod Digits
 pub mod Forms
+pub mod Ends
 mod Keywords

@@ -13,6 +13,7 @@
 mod fault;
 mod keyword;
 mod line;
+mod line_end;
 mod line_words;
 mod name;
 mod number;

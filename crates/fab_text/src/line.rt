@@ -1,10 +1,10 @@
 //! A text cut after its first line.
 
-ghost use Rattle.std.specs.Prelude.{◌≡◌, ◌≤◌, ◌<◌, ◌+◌, ◌∷◌, [], length, position, MatchOption};
-ghost use Rattle.std.specs.List.{position_or_len};
-ghost use Rattle.fab_text.specs.Line.{is_line_end, words_of, says_nothing};
+ghost use Rattle.std.specs.Prelude.{◌≡◌, ◌<◌, [], length, MatchOption};
+ghost use Rattle.fab_text.specs.Line.{words_of, says_nothing};
 ghost use Rattle.fab_text.specs.Split.{line_front, line_back, without_return};
 
+use crate::line_end::line_len;
 use crate::line_words::word_start;
 
 // The first line of a text without its end, and what follows it.
@@ -31,20 +31,6 @@ fn without_return(line: &[u8]) -> &[u8]
         [front @ .., b'\r'] => front,
         _ => line,
     }
-}
-
-// How many bytes come before the first LF, or at all.
-fn line_len(text: &[u8]) -> usize
-    ensures { result ≡ position_or_len is_line_end text.now }
-{
-    line_end(text).unwrap_or(text.len())
-}
-
-// The place of the first LF.
-fn line_end(text: &[u8]) -> Option<usize>
-    ensures { result ≡ position is_line_end text.now }
-{
-    text.iter().position(|b| *b == b'\n')
 }
 
 // Whether a line is blank or a comment.
