@@ -1,5 +1,5 @@
 -- Lines that are written in more than one part: the first words, and those after them.
-use Rattle.std.proofs.Common.{ℕ, ℤ, ◌≡◌, ◌<◌, ◌≤◌, ◌+◌, ◌-◌, ◌/◌, ◌%◌, List, [], ◌∷◌, ◌++◌, ap, sym, ◌∙◌, map, codes, decimal, arith}
+use Rattle.std.proofs.Common.{ℕ, ℤ, ◌≡◌, ◌<◌, ◌≤◌, ◌+◌, ◌-◌, ◌/◌, ◌%◌, List, [], ◌∷◌, ◌++◌, refl, ap, sym, ◌∙◌, map, codes, decimal, arith, length, replicate, take, take_at}
 use Rattle.std.specs.Prelude.{flat_map}
 use Rattle.std.proofs.lemmas.Fmt.{decimal_digit, decimal_step}
 use Rattle.std.proofs.lemmas.Grind.{flat_map-append}
@@ -14,7 +14,9 @@ use Rattle.line_table.specs.Texts.{turn_text, host_name}
 use Rattle.run_defs.specs.LineRows.{place_text}
 use Rattle.run_defs.specs.LineText.{words_in}
 use Rattle.run_defs.proofs.RowWords.{route-words, tokens-words}
-use Rattle.fab_report.specs.Words.{behind}
+use Rattle.world_defs.specs.declared.effect.Said.{Said}
+use Rattle.world_defs.specs.declared.effect.Said.TheVariants.{Done, Count, Token, Sent, Received, Nothing, Refused}
+use Rattle.fab_report.specs.Words.{behind, few_words, more_words, said_words}
 
 -- words with one space between them are the first, and two lists of others after it
 spaced_both : (w : List ℕ) (ws vs : List (List ℕ)) → spaced (w ∷ (ws ++ vs)) ≡ w ++ (behind ws ++ behind vs)
@@ -41,6 +43,13 @@ line_continued old w ws vs line whole e f = continued old w ws vs e f ∙ ap (λ
 -- words after others, and more after them
 pub followed_by : (old : List ℕ) (ws vs : List (List ℕ)) {t u : List ℕ} → t ≡ old ++ behind ws → u ≡ t ++ behind vs → u ≡ old ++ behind (ws ++ vs)
 followed_by old ws vs e f = two old (behind ws) (behind vs) e f ∙ ap (λ t. old ++ t) (sym (flat_map-append (λ x. 32 ∷ x) ws vs))
+
+-- bytes that were put into room behind a text, of which the rest was cut off
+pub put_behind : (old bytes v tail : List ℕ) (begin room end len : ℕ) {t u w : List ℕ} → begin ≡ length old → t ≡ old ++ replicate room 0 → u ≡ t
+    → take end v ≡ take begin u ++ bytes → length v ≡ len → w ≡ take end (take len (v ++ tail)) → w ≡ old ++ bytes
+put_behind old bytes v tail begin room end len at zeros lent put long cut =
+    cut ∙ ap (take end) (take_at v tail len long)
+    ∙ put ∙ ap (λ l. l ++ bytes) (ap (take begin) (lent ∙ zeros) ∙ take_at old (replicate room 0) begin (sym at))
 
 -- a route with its turns
 pub routed : (n : Network) (old : List ℕ) (from to : ℕ) (ts : List ℤ) {t u : List ℕ} → t ≡ old ++ spaced (codes "route" ∷ host_name n from ∷ host_name n to ∷ [])
@@ -73,16 +82,38 @@ tokens_written n host port xs ys {t} e f g h =
     line_continued [] (codes "tokens") (host_name n host ∷ decimal port ∷ codes "send" ∷ []) (map place_text xs ++ codes "recv" ∷ map place_text ys)
     (words_in n (Tokens host port xs ys)) (sym (tokens-words n host port xs ys)) e (placed t xs ys f g h)
 
--- three bytes after a text, one after the other
-pub three : (old : List ℕ) (a b c : ℕ) {t u v : List ℕ} → t ≡ old ++ a ∷ [] → u ≡ t ++ b ∷ [] → v ≡ u ++ c ∷ [] → v ≡ old ++ a ∷ b ∷ c ∷ []
-three old a b c e f g =
-    g ∙ ap (λ l. l ++ c ∷ []) (f ∙ ap (λ l. l ++ b ∷ []) e ∙ append_assoc old (a ∷ []) (b ∷ [])) ∙ append_assoc old (a ∷ b ∷ []) (c ∷ [])
-
 -- a number from 10 to 19 is written as a one, and then what is above 10
-pub teen : (n : ℕ) → 10 ≤ n → n < 20 → 49 ∷ (48 + (n - 10)) ∷ [] ≡ decimal n
+pub teen : (n : ℕ) → 10 ≤ n → n < 20 → decimal n ≡ 49 ∷ (48 + (n - 10)) ∷ []
 teen n least most =
     let tens : n / 10 ≡ 1 = omega arith in
     let ones : n % 10 ≡ n - 10 = omega arith in
-    sym
-    (decimal_step n least (omega arith) ∙ (λ i. decimal (tens i) ++ (48 + ones i) ∷ [])
-    ∙ ap (λ l. l ++ (48 + (n - 10)) ∷ []) (decimal_digit 1 (omega arith)))
+    decimal_step n least (omega arith)
+    ∙ (λ i. decimal (tens i) ++ (48 + ones i) ∷ [])
+    ∙ ap (λ l. l ++ (48 + (n - 10)) ∷ []) (decimal_digit 1 (omega arith))
+
+-- a number of two digits is written as its tens, and then what is left
+pub tens : (n : ℕ) → 10 ≤ n → n < 100 → decimal n ≡ (48 + n / 10) ∷ (48 + n % 10) ∷ []
+tens n least most =
+    decimal_step n least (omega arith)
+    ∙ ap (λ l. l ++ (48 + n % 10) ∷ []) (decimal_digit (n / 10) (omega arith))
+
+-- what a call said is said in few words, or in more
+said-words : (n : Network) (said : Said) → few_words said ++ more_words n said ≡ said_words n said
+said-words n Done = refl
+said-words n (Count k) = refl
+said-words n (Token k) = refl
+said-words n (Sent k) = refl
+said-words n (Received token from sport prio body) = refl
+said-words n Nothing = refl
+said-words n (Refused cause) = refl
+
+-- a call with what it was answered
+pub answered : (n : Network) (old call name port : List ℕ) (said : Said) (line : List (List ℕ)) {t u : List ℕ} → call ∷ name ∷ port ∷ said_words n said ≡ line
+    → t ≡ old ++ (spaced (call ∷ name ∷ port ∷ []) ++ behind (few_words said)) → u ≡ t ++ behind (more_words n said) → u ≡ old ++ spaced line
+answered n old call name port said line {t} {u} whole e f =
+    let front = old ++ spaced (call ∷ name ∷ port ∷ []) in
+    let few = behind (few_words said) in
+    let more = behind (more_words n said) in
+    let both : few ++ more ≡ behind (said_words n said) = sym (flat_map-append (λ w. 32 ∷ w) (few_words said) (more_words n said)) ∙ ap behind (said-words n said) in
+    line_continued old call (name ∷ port ∷ []) (said_words n said) line {t = front} whole refl
+    (f ∙ ap (λ l. l ++ more) (e ∙ sym (append_assoc old (spaced (call ∷ name ∷ port ∷ [])) few)) ∙ append_assoc front few more ∙ ap (λ l. front ++ l) both)

@@ -1,6 +1,6 @@
 //! What a client's call was answered.
 
-ghost use Rattle.std.specs.Prelude.{◌≡◌, ◌++◌, ◌∷◌, [], OnOk, codes, decimal, length};
+ghost use Rattle.std.specs.Prelude.{◌≡◌, ◌≤◌, ◌+◌, ◌++◌, ◌∷◌, [], OnOk, codes, decimal, length, take};
 ghost use Rattle.fab_text.specs.Written.{spaced};
 ghost use Rattle.run_defs.specs.LineRows.{call_word};
 ghost use Rattle.net_defs.specs.Network.{Network};
@@ -9,15 +9,19 @@ ghost use Rattle.line_table.specs.Texts.{hex_text};
 ghost use Rattle.run_defs.specs.declared.line.Line.TheVariants.{Client};
 ghost use Rattle.world_defs.specs.declared.effect.Said.TheVariants.{Received, Refused};
 ghost use Rattle.fab_report.specs.There.{IsHost, IsSaidOf};
-ghost use Rattle.fab_report.specs.Words.{behind, said_words};
+ghost use Rattle.fab_report.specs.Words.{behind, few_words, more_words, said_words};
 
-use crate::words::{append_numbered, bytes_word};
+use crate::room::{make_room, put, put_number, put_numbered};
+use crate::words::bytes_word;
 use line_writing::Word::{Number, Text};
-use line_writing::{append_behind, append_bytes, append_marked};
+use line_writing::append_behind;
 use port_graph::{Fabric, Vertex};
 use run_defs::ClientCall;
 use std::alloc::AllocError;
 use world_defs::{ClientCause, Said};
+
+// The most bytes of a call and of an answer of few words, but the host's name: letters and spaces, and two numbers.
+const CALL_ROOM: usize = 101;
 
 /// The call's word, host and port, and what it was answered.
 pub(crate) fn client_line(
@@ -34,24 +38,44 @@ pub(crate) fn client_line(
         ++ spaced (words_in f.now (Client call host port said.now))) }
 {
     let name = f.name_of(Vertex::Host(host));
-    append_call(text, call_of(call), name, port)?;
+    let begin = make_room(text, CALL_ROOM + name.len())?;
+    let end = put_call(text, begin, call_of(call), name, port, said);
+    text.truncate(end);
     append_said(text, f, said)
 }
 
-// The word of a call, with the port at which it is made. None of these is made a `Word` first.
-fn append_call(text: &mut Vec<u8>, call: &[u8], name: &[u8], port: u8) -> Result<(), AllocError>
-    ensures { OnOk result (text.new.items ≡ text.old.items
-        ++ spaced (call.now ∷ name.now ∷ decimal port ∷ [])) }
+// Puts the word of a call, the port at which it is made, and an answer of few words at a place: where they end.
+fn put_call(room: &mut [u8], at: usize, call: &[u8], name: &[u8], port: u8, said: &Said) -> usize
+    requires call { length call.now ≤ 7 }
+    requires room { at + length name.now + CALL_ROOM ≤ length room.old }
+    ensures within { result ≤ length room.new }
+    ensures size { length room.new ≡ length room.old }
+    ensures bytes { take result room.new ≡ take at room.old ++ (spaced (call.now ∷ name.now ∷ decimal port ∷ [])
+        ++ behind (few_words said.now)) }
 {
-    append_bytes(text, call)?;
-    text.push(b' ')?;
-    append_bytes(text, name)?;
-    append_marked(text, b' ', u64::from(port))
+    let end = put_at_port(room, at, call, name, port);
+    put_said(room, end, said)
+}
+
+// Puts the word of a call and the port at which it is made at a place: where they end.
+#[inline(always)]
+fn put_at_port(room: &mut [u8], at: usize, call: &[u8], name: &[u8], port: u8) -> usize
+    requires { at + length call.now + length name.now + 42 ≤ length room.old }
+    ensures most { result ≤ at + length call.now + length name.now + 42 }
+    ensures size { length room.new ≡ length room.old }
+    ensures bytes { take result room.new ≡ take at room.old ++ spaced (call.now ∷ name.now ∷ decimal port ∷ []) }
+{
+    let end = put(room, at, call);
+    let begin = put(room, end, b" ");
+    let end = put(room, begin, name);
+    let begin = put(room, end, b" ");
+    put_number(room, begin, u32::from(port))
 }
 
 // The word of a call.
 fn call_of(call: ClientCall) -> &'static [u8]
-    ensures { result.now ≡ call_word call }
+    ensures word { result.now ≡ call_word call }
+    ensures short { length result.now ≤ 7 }
 {
     match call {
         ClientCall::Begin => b"open",
@@ -63,16 +87,31 @@ fn call_of(call: ClientCall) -> &'static [u8]
     }
 }
 
-// What the call was answered, after other words.
-fn append_said(text: &mut Vec<u8>, f: &Fabric, said: &Said) -> Result<(), AllocError>
-    requires { IsSaidOf f.now said.now }
-    ensures { OnOk result (text.new.items ≡ text.old.items ++ behind (said_words f.now said.now)) }
+// Puts what the call was answered, where that is few words: where it ends.
+#[inline(always)]
+fn put_said(room: &mut [u8], at: usize, said: &Said) -> usize
+    requires { at + 52 ≤ length room.old }
+    ensures within { result ≤ length room.new }
+    ensures size { length room.new ≡ length room.old }
+    ensures bytes { take result room.new ≡ take at room.old ++ behind (few_words said.now) }
 {
     match said {
-        Said::Done => append_bytes(text, b" done"),
-        Said::Count(count) => append_numbered(text, b" done", u64::from(*count)),
-        Said::Token(token) => append_numbered(text, b" token", u64::from(*token)),
-        Said::Sent(token) => append_numbered(text, b" sent token", u64::from(*token)),
+        Said::Done => put(room, at, b" done"),
+        Said::Count(count) => put_numbered(room, at, b" done", *count),
+        Said::Token(token) => put_numbered(room, at, b" token", u32::from(*token)),
+        Said::Sent(token) => put_numbered(room, at, b" sent token", u32::from(*token)),
+        Said::Nothing => put(room, at, b" nothing"),
+        Said::Received { .. } | Said::Refused(_) => at,
+    }
+}
+
+// What the call was answered, after other words, where that isn't put with them: a message that was received, or why
+// the call is refused.
+fn append_said(text: &mut Vec<u8>, f: &Fabric, said: &Said) -> Result<(), AllocError>
+    requires { IsSaidOf f.now said.now }
+    ensures { OnOk result (text.new.items ≡ text.old.items ++ behind (more_words f.now said.now)) }
+{
+    match said {
         Said::Received {
             token,
             from,
@@ -80,8 +119,8 @@ fn append_said(text: &mut Vec<u8>, f: &Fabric, said: &Said) -> Result<(), AllocE
             prio,
             body,
         } => append_received(text, f, *token, *from, *sport, *prio, body.bytes()),
-        Said::Nothing => append_bytes(text, b" nothing"),
         Said::Refused(cause) => append_refused(text, *cause),
+        _ => Ok(()),
     }
 }
 

@@ -11,7 +11,8 @@
 //! | module | has |
 //! |---|---|
 //! | `line` | the call, and the lines of a few words |
-//! | `mapping` | the lines of maps, routes and ranks |
+//! | `mapping` | the lines of maps and ranks, and of how many routes there are |
+//! | `route` | the line of a route |
 //! | `circuit` | the lines of a map of circuit links |
 //! | `cables` | the lines of cables that are pulled and plugged, and of broken routes |
 //! | `client` | what a client's call was answered |
@@ -22,6 +23,7 @@
 //! | `printed` | what a command printed: a text, and its figure for a summary |
 //! | `summary` | the summary of a run |
 //! | `words` | the words of turns, vertices and bytes |
+//! | `room` | bytes put into room at the end of a text |
 #![tactic(auto)]
 
 mod cables;
@@ -33,6 +35,8 @@ mod line;
 mod mapping;
 mod places;
 mod printed;
+mod room;
+mod route;
 mod step;
 mod summary;
 mod words;

@@ -16,8 +16,9 @@ use crate::cables::append_cable_line;
 use crate::client::client_line;
 use crate::duo::duo_line;
 use crate::generated::append_generated_line;
-use crate::mapping::{append_map_line, route_line};
+use crate::mapping::append_map_line;
 use crate::places::tokens_line;
+use crate::route::route_line;
 use crate::step::step_line;
 use crate::words::append_numbered;
 use fab_text::FaultKind;
@@ -67,7 +68,7 @@ pub fn print_route_onto(text: &mut Vec<u8>, r: &Route, f: &Fabric) -> Result<(),
     requires there { AreThere f.now (route_line r.now) }
     ensures text { OnOk result (text.new.items ≡ text.old.items ++ line_text f.now (route_line r.now)) }
 {
-    route_line(text, f, r.from, r.to, r.walk.turns())?;
+    route_line(text, f, r.from, r.to, &r.walk)?;
     text.push(b'\n')?;
     Ok(())
 }
