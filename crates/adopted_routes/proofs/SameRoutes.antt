@@ -1,6 +1,5 @@
 -- Two sets are compared route by route.
-use Rattle.std.proofs.Common.{◌≡◌, ◌≢◌, ◌<◌, ◌≤◌, ◌+◌, ℕ, zero, suc, Bool, true, false, ◌&&◌, ℤ, List, [], ◌∷◌, length, drop, get_or, refl, sym, ap, ◌∙◌, subst, arith}
-use Rattle.std.proofs.lemmas.List.{drop_more}
+use Rattle.std.proofs.Common.{◌≡◌, ◌≢◌, suc, Bool, true, false, ◌&&◌, ℤ, List, [], ◌∷◌, length, refl, sym, ap, ◌∙◌, subst, arith}
 use Rattle.std.specs.Ordering.{int_eq}
 use Rattle.std.specs.Cmp.Lexicographic.{pointwise}
 use Rattle.std.specs.Cmp.Rules.{signed_items}
@@ -29,21 +28,3 @@ lengths-same (r ∷ rs) (s ∷ ss) n = by (same_route r s) (lengths-same rs ss (
     by : (b : Bool) → false ≡ same_routes rs ss → false ≡ (b && same_routes rs ss)
     by true e = e
     by false e = refl
-
--- what the routes from a place on come to
-pub same-at : (rs ss : List Route) (i : ℕ) (r s : Route) → i < length rs → i < length ss → r ≡ get_or rs i r → s ≡ get_or ss i s
-    → same_routes (drop i rs) (drop i ss) ≡ (same_route r s && same_routes (drop (i + 1) rs) (drop (i + 1) ss))
-same-at rs ss i r s l m e f =
-    let here : drop i rs ≡ r ∷ drop (i + 1) rs = drop_more rs i r l ∙ ap (λ x. x ∷ drop (i + 1) rs) (sym e) in
-    let there : drop i ss ≡ s ∷ drop (i + 1) ss = drop_more ss i s m ∙ ap (λ x. x ∷ drop (i + 1) ss) (sym f) in
-    ap (λ l. same_routes l (drop i ss)) here ∙ ap (same_routes (r ∷ drop (i + 1) rs)) there
-
-past-end : (rs : List Route) (k : ℕ) → length rs ≤ k → drop k rs ≡ []
-past-end [] zero l = refl
-past-end [] (suc k) l = refl
-past-end (r ∷ rs) zero l = absurd (omega (arith, l))
-past-end (r ∷ rs) (suc k) l = past-end rs k (omega (arith, l))
-
--- at their ends they are the same
-pub same-end : (rs ss : List Route) (i : ℕ) → length rs ≤ i → length ss ≤ i → true ≡ same_routes (drop i rs) (drop i ss)
-same-end rs ss i l m = sym (ap (λ x. same_routes x (drop i ss)) (past-end rs i l) ∙ ap (same_routes []) (past-end ss i m))

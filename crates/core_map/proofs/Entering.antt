@@ -8,7 +8,7 @@ use Rattle.std.proofs.lemmas.Bool.Decides.{Decides-eqb}
 use Rattle.map_defs.specs.NetMap.{NetMap}
 use Rattle.core_map.specs.declared.walk.Step.{Step}
 use Rattle.core_map.specs.Lasting.{IsJoinedBy, Lasts}
-use Rattle.core_map.specs.Walking.{WalkState, IsWalk, IsStep, AreSteps, IsDone, IsOnPath, IsFrom, IsLastAt, AreOrdered, AreRoots, number_in, unmet, weight, HasGrown, entered}
+use Rattle.core_map.specs.Walking.{WalkState, IsWalk, IsStep, AreSteps, IsDone, IsOnPath, IsFrom, IsLastAt, AreOrdered, AreRoots, unmet, weight, entered}
 use Rattle.core_map.specs.Walking.Around.{here}
 use Rattle.core_map.proofs.Stepping.{joined-number}
 use Rattle.core_map.proofs.Walks.{num, Extends, extended-steps, extended-done, number-below, get-split, get-left, get-last, unmet-set}
@@ -136,19 +136,6 @@ module _ (m : NetMap) (t : WalkState) (i v w next : ℕ) (walk : IsWalk m t) (fr
           by : IsOnPath t.path u ⊎ IsDone m ns ps t.cut u → ((u ≡ w) ⊎ IsOnPath t.path u) ⊎ IsDone m us qs t.cut u
           by (inl p) = inl (inr p)
           by (inr d) = inr (extended-done m ns ps us qs extends t.cut t.cut u h refl d)
-
-  pub entered-grown : HasGrown t (entered t i v w next)
-  entered-grown = record {
-    keeps = extends.numbers;
-    roots = λ u e. by u e (new-or u (omega (arith, e)));
-  }
-    where
-      by : (u : ℕ) → num us u ≡ 1 → (u ≡ w) ⊎ (1 ≤ num ns u) → num ns u ≡ 1
-      by u e (inl f) = let g : num us u ≡ length t.order + 2 = ap (num us) f ∙ mine in absurd (omega arith)
-      by u e (inr h) = sym (extends.numbers u h) ∙ e
-
-  pub entered-numbered : 1 ≤ number_in (entered t i v w next) w
-  entered-numbered = omega (arith, mine)
 
   pub entered-smaller : weight m (entered t i v w next) < weight m t
   entered-smaller =

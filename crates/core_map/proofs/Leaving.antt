@@ -1,5 +1,5 @@
 -- A step that is taken back keeps the walk.
-use Rattle.std.proofs.Common.{◌≡◌, ◌≢◌, ◌<◌, ◌≤◌, ◌+◌, ℕ, suc, List, [], ◌∷◌, length, Bool, true, false, is_some, refl, ap, sym, ◌∙◌, subst, arith, nat_eq, nat_lt, if◌then◌else◌, get_or-set_same, ◌⊎◌, inl, inr}
+use Rattle.std.proofs.Common.{◌≡◌, ◌≢◌, ◌<◌, ◌≤◌, ◌+◌, ℕ, List, [], ◌∷◌, length, Bool, true, false, is_some, refl, ap, sym, ◌∙◌, subst, arith, nat_eq, nat_lt, if◌then◌else◌, get_or-set_same, ◌⊎◌, inl, inr}
 use Rattle.std.specs.Prelude.{slice_index_or, slice_set}
 use Rattle.std.proofs.Math.ListN.{length-set}
 use Rattle.std.proofs.lemmas.List.{get_or-set_other}
@@ -12,7 +12,7 @@ use Rattle.map_defs.specs.Core.{without}
 use Rattle.core_map.specs.declared.walk.Step.{Step}
 use Rattle.core_map.specs.Laws.{IsJoinedWithout}
 use Rattle.core_map.specs.Lasting.{IsJoinedBy}
-use Rattle.core_map.specs.Walking.{WalkState, IsWalk, IsStep, AreSteps, IsDone, IsHeld, LeadsTo, IsOnPath, IsFrom, entries, lowered_first, with_path, weight, left_of, marked}
+use Rattle.core_map.specs.Walking.{WalkState, IsWalk, IsStep, AreSteps, IsDone, IsHeld, LeadsTo, IsOnPath, IsFrom, entries, lowered_first, with_path, marked}
 use Rattle.core_map.proofs.Stepping.{joined-back, same-ends, same-other, around-without, around-fewer, around-from, without-edge}
 use Rattle.core_map.proofs.Walks.{num, extended-done, number-below, same-number}
 use Rattle.core_map.proofs.Passing.{free-of, lowered-vertex}
@@ -202,14 +202,3 @@ module _ (m : NetMap) (t : WalkState) (s : Step) (walk : IsWalk m (with_path t (
           by (inl (inl f)) = absurd (apart f)
           by (inl (inr p)) = inl (on-lowered t.path v p)
           by (inr d) = inr (extended-done m ns ps ns ps (record { numbers = λ u k. refl; parents = λ u k. refl }) t.cut new-cut v (omega (arith, l)) (get_or-set_other t.cut s.vertex v (nat_eq s.low (num ns s.vertex)) false apart) d)
-
-  left-few : (ss : List Step) → left_of (lowered_first s.low ss) ≡ left_of ss
-  left-few [] = refl
-  left-few (r ∷ ss) = by (nat_lt s.low r.low)
-    where
-      by : (c : Bool) → suc (if c then record { vertex = r.vertex; entry = r.entry; low = s.low; next = r.next } else r).next + left_of ss ≡ suc r.next + left_of ss
-      by true = refl
-      by false = refl
-
-  pub left-smaller : weight m (left_walk t s) < weight m (with_path t (s ∷ t.path))
-  left-smaller = let e = left-few t.path in omega (arith, e)

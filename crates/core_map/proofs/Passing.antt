@@ -6,7 +6,7 @@ use Rattle.std.proofs.lemmas.Bool.Decides.{Decides-ltb}
 use Rattle.map_defs.specs.NetMap.{NetMap}
 use Rattle.core_map.specs.declared.walk.Step.{Step}
 use Rattle.core_map.specs.Lasting.{IsJoinedBy}
-use Rattle.core_map.specs.Walking.{WalkState, IsWalk, IsStep, AreSteps, IsDone, LeadsTo, IsOnPath, EndsAt, IsLastAt, entries, lowered, with_path, weight}
+use Rattle.core_map.specs.Walking.{WalkState, IsWalk, IsStep, AreSteps, IsDone, LeadsTo, IsOnPath, EndsAt, IsLastAt, entries, lowered, with_path}
 use Rattle.core_map.specs.Walking.Around.{here, on}
 use Rattle.core_map.proofs.Stepping.{same-ends, same-other}
 use Rattle.core_map.proofs.Walks.{num}
@@ -103,13 +103,6 @@ lowered-vertex low s = by (nat_lt low s.low)
     by true = refl
     by false = refl
 
-lowered-next : (low : ℕ) (s : Step) → (lowered low s).next ≡ s.next
-lowered-next low s = by (nat_lt low s.low)
-  where
-    by : (t : Bool) → (if t then record { vertex = s.vertex; entry = s.entry; low = low; next = s.next } else s).next ≡ s.next
-    by true = refl
-    by false = refl
-
 -- the walk after the look
 module _ (m : NetMap) (t : WalkState) (s : Step) (i next w low : ℕ) (walk : IsWalk m (with_path t (s ∷ t.path)))
     (at : s.next ≡ suc i) (last : IsLastAt m s.vertex i next) (joined : IsJoinedBy m i s.vertex w) (read : ((i ≡ s.entry) × (low ≡ s.low)) ⊎ ((i ≢ s.entry) × ((low ≡ num t.numbers w) × (1 ≤ num t.numbers w)))) where
@@ -138,9 +131,3 @@ module _ (m : NetMap) (t : WalkState) (s : Step) (i next w low : ℕ) (walk : Is
       each v (inl (inl e)) = inl (inl (e ∙ sym same-vertex))
       each v (inl (inr p)) = inl (inr p)
       each v (inr d) = inr d
-
-  pub passed-smaller : weight m (with_path t (passed ∷ t.path)) < weight m (with_path t (s ∷ t.path))
-  passed-smaller =
-      let a : passed.next ≡ next = lowered-next low (record { vertex = s.vertex; entry = s.entry; low = s.low; next = next }) in
-      let b = last.below in
-      omega (arith, a, b, at)

@@ -1,5 +1,5 @@
 -- A number in range that comes first is a turn, also behind a sign.
-use Rattle.std.proofs.Common.{◌≡◌, ◌≤◌, ◌++◌, ℕ, ℤ, pos, List, [], ◌∷◌, true, false, length, nat_eq, nat_lt, Result, Ok, Err, append_assoc, refl, ap, sym, ◌∙◌, arith, if◌then◌else◌}
+use Rattle.std.proofs.Common.{◌≡◌, ◌≤◌, ℕ, ℤ, pos, List, [], ◌∷◌, true, false, length, nat_eq, nat_lt, Ok, refl, ap, sym, ◌∙◌, arith, if◌then◌else◌}
 use Rattle.std.specs.List.{list_all}
 use Rattle.std.proofs.lemmas.Bool.{and_parts}
 use Rattle.std.proofs.lemmas.Bool.Decides.{nat_tests}
@@ -37,8 +37,3 @@ size-is digits left n value h same small =
       up = turns-led (43 ∷ digits) (43 ∷ h.digits) left (pos n) (h.signed 43 refl) (ap (with_sign pos) size);
       unsigned = turns-led digits h.digits left (pos n) h.first (unsigned-turn h.digits n said small);
     }
-
--- one turn more
-pub behind-more : {E : Type 0} (done : List ℤ) (t : ℤ) (r : Result (List ℤ) E) → behind done (behind (t ∷ []) r) ≡ behind (done ++ t ∷ []) r
-behind-more done t (Ok more) = grind (arith, append_assoc)
-behind-more done t (Err e) = refl

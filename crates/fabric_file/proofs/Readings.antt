@@ -1,6 +1,6 @@
 -- One line more of the fabric part, and the names of a fabric that was read.
-use Rattle.std.proofs.Common.{◌≡◌, ◌<◌, ℕ, suc, List, [], ◌∷◌, ◌++◌, ◌+◌, ◌-◌, arith, lit≤, length, Bool, true, false, map, Option, Some, None, Result, Ok, Err, refl, ap, sym, subst, ◌∙◌, append_assoc, if◌then◌else◌}
-use Rattle.std.specs.Prelude.{codes, bytes_eq, IsOk}
+use Rattle.std.proofs.Common.{◌≡◌, ℕ, List, [], ◌∷◌, ◌++◌, ◌+◌, ◌-◌, arith, lit≤, length, Bool, true, false, map, Option, Some, None, Result, Ok, Err, refl, ap, sym, subst, ◌∙◌, append_assoc, if◌then◌else◌}
+use Rattle.std.specs.Prelude.{codes, bytes_eq}
 use Rattle.std.specs.List.{AllByRecursion}
 use Rattle.std.proofs.lemmas.List.{map-append}
 use Rattle.net_defs.specs.declared.fault.GraphFault.{GraphFault}
@@ -12,14 +12,12 @@ use Rattle.net_defs.proofs.Distinct.{all-insert, all-push}
 use Rattle.net_defs.proofs.Growing.{fabric-with_host, fabric-with_switch, fabric-with_cable}
 use Rattle.fab_text.specs.declared.fault.FaultKind.{FaultKind}
 use Rattle.fab_text.specs.declared.fault.FaultKind.TheVariants.{BadWord}
-use Rattle.fab_text.specs.declared.fault.LineFault.{LineFault}
-use Rattle.fab_text.specs.declared.fault.LineFault.TheVariants.{Wrong, NoMemory}
 use Rattle.fab_text.specs.Word.{name_test}
 use Rattle.fab_text.specs.Line.{TextLine, lines_left, line_count, words_of, one_of, two_of, four_of}
-use Rattle.fab_text.specs.Fault.{FirstFault, LineLeaves, TextGives, fault_at, at_line, and_then}
+use Rattle.fab_text.specs.Fault.{FirstFault, at_line, and_then}
 use Rattle.fabric_file.specs.declared.reading.FabricText.{FabricText}
 use Rattle.fabric_file.specs.Declaring.{declared, is_script, unless, where_there, number_word, end_word, host_declared, host_line, switch_declared, switch_line, cable_declared, cable_line, cable_between}
-use Rattle.fabric_file.specs.Reading.{fabric_from, fabric_reading, sound_behind, sound_from, AreNamed}
+use Rattle.fabric_file.specs.Reading.{fabric_from, fabric_reading, AreNamed}
 
 -- what the lines from a line on say, where it is `script`, and where it isn't
 abbrev from_line : ℕ → ℕ → Network → TextLine → List TextLine → Bool → Result FabricText FirstFault
@@ -27,47 +25,10 @@ from_line size past n l ls script =
     if script then Ok (record { fabric = n; next = size - length l.after; line = l.number })
     else and_then (at_line l.number (declared n (words_of l.bytes))) (λ m. fabric_from size past m ls)
 
--- a line that isn't `script`
-pub from-more : (size past : ℕ) (n : Network) (ls rest : List TextLine) (l : TextLine) → ls ≡ l ∷ rest → false ≡ is_script (words_of l.bytes)
-    → fabric_from size past n ls ≡ and_then (at_line l.number (declared n (words_of l.bytes))) (λ m. fabric_from size past m rest)
-from-more size past n ls rest l e s = ap (fabric_from size past n) e ∙ sym (ap (from_line size past n l rest) s)
-
 -- the line `script`
 pub from-script : (size past : ℕ) (n : Network) (ls rest : List TextLine) (l : TextLine) → ls ≡ l ∷ rest → true ≡ is_script (words_of l.bytes)
     → fabric_from size past n ls ≡ Ok (record { fabric = n; next = size - length l.after; line = l.number })
 from-script size past n ls rest l e s = ap (fabric_from size past n) e ∙ sym (ap (from_line size past n l rest) s)
-
--- a line that declares something is sound
-pub sound-some : (n m : Network) (ls rest : List TextLine) (l : TextLine) → ls ≡ l ∷ rest → false ≡ is_script (words_of l.bytes) → declared n (words_of l.bytes) ≡ Ok m → 0 < length (sound_from n ls)
-sound-some n m ls rest l e s d =
-    let one : length (sound_from n ls) ≡ suc (length (sound_from m rest)) =
-    ap (λ k. length (sound_from n k)) e
-    ∙ sym (ap (λ b. length (if b then [] else sound_behind l (declared n (words_of l.bytes)) (λ m. sound_from m rest))) s)
-    ∙ ap (λ r. length (sound_behind l r (λ m. sound_from m rest))) d in
-    omega (arith, one)
-
--- and so is one at which memory runs out
-pub sound-wanting : (n : Network) (ls rest : List TextLine) (l : TextLine) → ls ≡ l ∷ rest → false ≡ is_script (words_of l.bytes) → IsOk (declared n (words_of l.bytes)) → 0 < length (sound_from n ls)
-sound-wanting n ls rest l e s o = by (declared n (words_of l.bytes)) refl o
-  where
-    by : (r : Result Network FaultKind) → declared n (words_of l.bytes) ≡ r → IsOk r → 0 < length (sound_from n ls)
-    by (Ok m) d o = sound-some n m ls rest l e s d
-    by (Err kind) d o = cc
-
--- a line that declares something
-pub from-kept : (size past : ℕ) (n m : Network) (ls rest : List TextLine) (l : TextLine) → ls ≡ l ∷ rest → false ≡ is_script (words_of l.bytes)
-    → declared n (words_of l.bytes) ≡ Ok m → fabric_from size past n ls ≡ fabric_from size past m rest
-from-kept size past n m ls rest l e s d =
-    from-more size past n ls rest l e s ∙ ap (λ r. and_then (at_line l.number r) (λ m. fabric_from size past m rest)) d
-
--- a line that is refused makes its text refused
-pub from-refused : (size past : ℕ) (n new : Network) (all ls rest : List TextLine) (first : Network) (l : TextLine) (fault : LineFault)
-    → fabric_from size past first all ≡ fabric_from size past n ls
-    → ls ≡ l ∷ rest → false ≡ is_script (words_of l.bytes)
-    → LineLeaves {T = Unit {0}} (declared n (words_of l.bytes)) new (Err fault) → TextGives (fabric_from size past first all) (Err (fault_at l.number fault))
-from-refused size past n new all ls rest first l (Wrong kind) same e s d =
-    same ∙ from-more size past n ls rest l e s ∙ ap (λ r. and_then (at_line l.number r) (λ m. fabric_from size past m rest)) d
-from-refused size past n new all ls rest first l NoMemory same e s d = tt
 
 -- the value that nothing refuses
 unless-ok : {X : Type 0} (refusal : Option GraphFault) (x m : X) → unless refusal x ≡ Ok m → (refusal ≡ None) × (x ≡ m)

@@ -96,38 +96,6 @@ at_host s c held e h head to is =
     ∙ ap (λ o. reached_by (gone_on s c held (course_into s.cables o held.wire)).0) head
     ∙ ap (λ v. reached_by (gone_on s c held (course_at s.cables v e.p held.wire)).0) to
 
-entered-none : (s : LinkState) (c : ℕ) (held : Held) (next : ℕ) (o : Option Held) → reached_by (entered s c held next o).0 ≡ None
-entered-none s c held next None = refl
-entered-none s c held next (Some other) = refl
-
-out-none : (s : LinkState) (c : ℕ) (held : Held) (k : ℕ) (t : Turned) → reached_by (gone_on s c held (course_out s.cables k held.wire t)).0 ≡ None
-out-none s c held k (Out port) = by (leaving s.cables (record { v = Switch k; p = port }))
-  where
-    enters : (next : ℕ) (t : Bool) → reached_by (gone_on s c held (if t then Drops NewCable else Enters next)).0 ≡ None
-    enters next true = refl
-    enters next false = entered-none s c held next (packet_in (emptied s c) next)
-
-    by : (o : Option ℕ) → reached_by (gone_on s c held (course_by_channel s.cables held.wire o)).0 ≡ None
-    by None = refl
-    by (Some next) = enters next (is_new s.cables next && not (is_mapping held.wire))
-out-none s c held k TurnedTooFar = refl
-out-none s c held k NoTurn = refl
-
--- none in an empty channel does
-pub in_empty : (s : LinkState) (c : ℕ) → packet_in s c ≡ None → reaching s c ≡ None
-in_empty s c none = ap (λ o. reached_by (advance_of s c o).0) none
-
--- none in a channel that ends at a switch does
-pub at_switch : (s : LinkState) (c : ℕ) (e : End) (k : ℕ) → life_head s.cables c ≡ Some e → e.v ≡ Switch k → reaching s c ≡ None
-at_switch s c e k head to = by (packet_in s c)
-  where
-    by : (o : Option Held) → reached_by (advance_of s c o).0 ≡ None
-    by None = refl
-    by (Some held) =
-        ap (λ o. reached_by (gone_on s c held (course_into s.cables o held.wire)).0) head
-        ∙ ap (λ v. reached_by (gone_on s c held (course_at s.cables v e.p held.wire)).0) to
-        ∙ out-none s c held k (aim (ports_of (fabric_now s.cables) (Switch k)) e.p held.wire)
-
 -- what reached a host
 pub reached_is : (m : Moved (List ℕ)) (h : ℕ) (wire : List ℕ) → reached_by m ≡ Some (h, wire) → m ≡ AtHost h wire
 reached_is (AtHost g w) h wire e = ap (λ r. AtHost r.0 r.1) (same_Some (g, w) (h, wire) e)

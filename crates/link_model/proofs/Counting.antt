@@ -3,7 +3,7 @@ use Rattle.std.proofs.Common.{◌≡◌, ◌<◌, ◌≤◌, ◌+◌, ℕ, zero,
 use Rattle.std.specs.List.{list_all}
 use Rattle.std.proofs.lemmas.Bool.Decides.{Decides-eqb}
 use Rattle.world_defs.specs.Links.{Held}
-use Rattle.link_model.specs.FullSlots.{full_of, full_count}
+use Rattle.link_model.specs.FullSlots.{full_count}
 
 nonzero : (n : ℕ) → 0 < n → nat_eq n 0 ≡ false
 nonzero n h = by (nat_eq n 0) refl
@@ -51,13 +51,6 @@ count-take [] c h = cc
 count-take (None ∷ ps) zero h = cc
 count-take (Some other ∷ ps) zero h = omega arith
 count-take (p ∷ ps) (suc c) h = let k = count-take ps c h in omega (arith, k)
-
--- and as many where there was none
-pub count-none : (ps : List (Option Held)) (c : ℕ) → is_some (get_or ps c None) ≡ false → full_count (set ps c None) ≡ full_count ps
-count-none [] c h = refl
-count-none (None ∷ ps) zero h = refl
-count-none (Some other ∷ ps) zero h = cc
-count-none (p ∷ ps) (suc c) h = ap (λ n. full_of p + n) (count-none ps c h)
 
 -- two writes to one place
 pub set-set : {X : Type 0} (xs : List X) (c : ℕ) (a b : X) → set (set xs c a) c b ≡ set xs c b

@@ -11,7 +11,6 @@ use Rattle.packet_defs.specs.Packet.{stripped}
 use Rattle.packet_defs.specs.Burst.{flipped, may_flip}
 use Rattle.world_defs.specs.declared.turned.Turned.{Turned}
 use Rattle.world_defs.specs.declared.turned.Turned.TheVariants.{Out, OutOfRange, NotRoute}
-use Rattle.world_defs.specs.declared.moved.Course.{Course}
 use Rattle.world_defs.specs.declared.moved.Course.TheVariants.{Enters, Drops}
 use Rattle.world_defs.specs.declared.moved.Moved.TheVariants.{To}
 use Rattle.world_defs.specs.History.{CableHistory, fabric_now}
@@ -74,10 +73,6 @@ stripped-at h wire next (Switch s) p to = stripped-out h s next (aim (ports_of (
 pub stripped-behind : (h : CableHistory) (c next ports : ℕ) (e : End) (wire : List ℕ) → life_head h c ≡ Some e → ports ≡ ports_of (fabric_now h) e.v → course h c wire ≡ Enters next → after_aim (aim ports e.p wire) wire ≡ stripped wire
 stripped-behind h c next ports e wire head count to =
     ap (λ k. after_aim (aim k e.p wire) wire) count ∙ stripped-at h wire next e.v e.p (sym (ap (λ o. course_into h o wire) head) ∙ to)
-
--- a channel holds a packet that goes there
-pub same-course : (g : CableHistory) (c : ℕ) (o : Option Held) (held : Held) (to : Course) → o ≡ Some held → option_map (λ h. course g c h.wire) o ≡ Some to → course g c held.wire ≡ to
-same-course g c o held to is e = let all : Some (course g c held.wire) ≡ Some to = sym (ap (option_map (λ (h : Held). course g c h.wire)) is) ∙ e in cc
 
 -- and enters the next one, which is empty once it is taken out
 pub enters-now : (s : LinkState) (c next : ℕ) (held : Held) → packet_in s c ≡ Some held → course s.cables c held.wire ≡ Enters next → packet_in (emptied s c) next ≡ None

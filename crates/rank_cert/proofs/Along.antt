@@ -53,10 +53,6 @@ pub ranked-there : (ks : List RankEntry) (at : Option MapPort) → ranked_by at 
 ranked-there ks None = refl
 ranked-there ks (Some d) = refl
 
-pub fault-end : (m : NetMap) (ks : List RankEntry) (before : Option Ranked) (at : Option MapPort) → fault_along ks before (channels_on m at []) ≡ fault_along ks before (channels_after m at)
-fault-end m ks before None = refl
-fault-end m ks before (Some d) = refl
-
 -- no fault: each channel has a rank
 has-rank : (before : Option Ranked) (d : MapPort) (o : Option ℕ) → fault_at before d o ≡ None → is_some o ≡ true
 has-rank before d None e = cc

@@ -1,27 +1,16 @@
 -- Routes along which a table's channels rise.
-use Rattle.std.proofs.Common.{◌≡◌, ◌≢◌, ◌<◌, ◌≤◌, ◌+◌, ◌*◌, ℕ, zero, suc, List, [], ◌∷◌, ◌++◌, Bool, true, false, not, length, drop, replicate, get_or, set, nat_eq, nat_lt, true≢false, Option, Some, None, refl, sym, ap, ◌∙◌, subst, arith, if◌then◌else◌}
+use Rattle.std.proofs.Common.{◌≡◌, ◌≢◌, ◌<◌, ◌≤◌, ◌+◌, ◌*◌, ℕ, zero, suc, List, [], ◌∷◌, ◌++◌, Bool, true, false, not, length, drop, get_or, set, nat_eq, nat_lt, true≢false, Option, Some, None, refl, sym, ap, ◌∙◌, subst, arith, if◌then◌else◌}
 use Rattle.std.specs.Prelude.{IfSome, ℤ, pos, ◌+ℤ◌, ◌-ℤ◌, option_map, option_and_then, option_to_list}
 use Rattle.std.proofs.lemmas.List.{get_or-set_same, get_or-set_other}
 use Rattle.std.proofs.lemmas.Bool.Decides.{Decides-eqb, nat_tests}
-use Rattle.net_defs.specs.declared.route.Route.{Route}
 use Rattle.map_defs.specs.declared.rank.RankEntry.{RankEntry}
 use Rattle.map_defs.specs.NetMap.{NetMap, MapPort, map_far}
-use Rattle.map_defs.specs.Routing.{channels_on, led_to, turned_to, port_of_host, vertex_of_host}
-use Rattle.map_defs.proofs.Ports.{same_port-refl}
+use Rattle.map_defs.specs.Routing.{channels_on, led_to, turned_to}
 use Rattle.rank_cert.specs.declared.crossings.Crossing.{Crossing}
-use Rattle.rank_cert.specs.Checking.{fault_along, route_fault, are_one}
+use Rattle.rank_cert.specs.Checking.{fault_along}
 use Rattle.rank_cert.specs.Crossing.{IsCrossing, AreBelow, AreCrossings, far_of}
 use Rattle.rank_cert.specs.Listing.{port_at}
 use Rattle.rank_cert.proofs.Places.{port_within}
-
--- an empty table
-get_or-nones : (size k : ℕ) → get_or {A = Option Crossing} (replicate size None) k None ≡ None
-get_or-nones zero k = refl
-get_or-nones (suc size) zero = refl
-get_or-nones (suc size) (suc k) = get_or-nones size k
-
-pub none-crossed : (m : NetMap) (ks : List RankEntry) (size : ℕ) → AreCrossings m ks (replicate size None)
-none-crossed m ks size = record { each = λ k c e. let two : None ≡ Some c = sym (get_or-nones size k) ∙ e in cc }
 
 -- one more channel at its place
 pub crossing-put : (m : NetMap) (ks : List RankEntry) (table : List (Option Crossing)) (k : ℕ) (o : Option Crossing) → k < length table → ((c : Crossing) → o ≡ Some c → IsCrossing m ks (port_at k) c) → AreCrossings m ks table → AreCrossings m ks (set table k o)
@@ -141,12 +130,3 @@ yes-of false e = absurd (true≢false e)
 pub next-above : (m : NetMap) (ks : List RankEntry) (last : Crossing) (d e : MapPort) (o p : Option Crossing) → last.onward ≡ true → d ≡ e → IfSome o (IsCrossing m ks d) → IfSome p (λ c. (o ≡ Some c) × (last.rank < c.rank)) → IfSome p (λ c. (last.onward ≡ true) × IsCrossing m ks e c × (last.rank < c.rank))
 next-above m ks last d e o None onward same is above = tt
 next-above m ks last d e o (Some c) onward same is above = (onward, subst (λ x. IsCrossing m ks x c) same (holds-some m ks d o c above.0 is), above.1)
-
--- a route whose channels rise to the port of its host has no fault
-pub faultless : (m : NetMap) (ks : List RankEntry) (r : Route) (v : ℕ) (c : Crossing) → vertex_of_host m r.from ≡ Some v → fault_along ks None (channels_on m (Some (record { v = v; p = pos 0 })) r.walk) ≡ None → led_to m (Some (record { v = v; p = pos 0 })) r.walk ≡ Some (far_of c) → vertex_of_host m r.to ≡ Some c.v → c.p ≡ pos 0 → route_fault m ks r ≡ None
-faultless m ks r v c from fault led to port =
-    let start : port_of_host m r.from ≡ Some (record { v = v; p = pos 0 }) = ap (option_map (λ w. record { v = w; p = pos 0 })) from in
-    let end : port_of_host m r.to ≡ Some (far_of c) = ap (option_map (λ w. record { v = w; p = pos 0 })) to ∙ ap (λ p. Some (record { v = c.v; p = p })) (sym port) in
-    let one : are_one (led_to m (port_of_host m r.from) r.walk) (port_of_host m r.to) ≡ true =
-    (λ i. are_one (led_to m (start i) r.walk) (end i)) ∙ ap (λ o. are_one o (Some (far_of c))) led ∙ same_port-refl (far_of c) in
-    rw (one, start) fault

@@ -112,8 +112,3 @@ rank-found (k ∷ ks) d zero up low high =
 rank-found (k ∷ ks) d (suc n) up low high =
     let other : same_port (port_of k) d ≡ false = below-other (port_of k) d (low zero k (omega arith)) in
     rw other (rank-found ks d n up.1 (λ i x l. low (suc i) x (omega arith)) (λ i x l h. high (suc i) x (omega arith) (omega arith)))
-
-pub past-end : (ks : List RankEntry) (n : ℕ) → length ks ≤ n → slice_get ks n ≡ None
-past-end [] n l = refl
-past-end (k ∷ ks) zero l = absurd (omega arith)
-past-end (k ∷ ks) (suc n) l = past-end ks n (omega arith)

@@ -63,10 +63,6 @@ injections : mapped_world.injected ≡ 62
 unfolding begun closed provided_by sent_by polled_by hear log.drain log.clear log.round_pass log.round log.settle log.sends log.host_try log.loop_try log.ask log.part_try log.install to_send packet_for after_sending lost was_reset repeated held flipped replayed asked part_staged planned_strikes sent_out injected advanced expired gave_up applied
 injections = refl
 
-drops : mapped_world.dropped ≡ 59
-unfolding begun closed provided_by sent_by polled_by hear log.drain log.clear log.round_pass log.round log.settle log.sends log.host_try log.loop_try log.ask log.part_try log.install to_send packet_for after_sending lost was_reset repeated held flipped replayed asked part_staged planned_strikes sent_out injected advanced expired gave_up applied
-drops = refl
-
 first_does : Does (new_session two_hosts) (Map 0 4 1) (OneLine (MapLine 0 Complete 31 62) ∷ MapLines setup_map ∷ []) mapped_session
 unfolding begun closed provided_by sent_by polled_by hear log.drain log.clear log.round_pass log.round log.settle log.sends log.host_try log.loop_try log.ask log.part_try log.install to_send packet_for after_sending lost was_reset repeated held flipped replayed asked part_staged planned_strikes sent_out injected advanced expired gave_up applied
 first_does = does (maps mapped_world two_hosts_journal setup_map Complete refl two_hosts_mapped refl refl)
