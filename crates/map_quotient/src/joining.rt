@@ -13,7 +13,7 @@ ghost use Rattle.map_quotient.specs.Joining.{vertex_at, joined, joined_by, AreTa
 use crate::cables::add;
 use fabric_map::{FabricMap, MapCable};
 use probe::WalkIndex;
-use replicate_merge::{Merged, find_near};
+use replicate_merge::Merged;
 use std::alloc::AllocError;
 
 /// Joins in a map what the walks show. The classes have these vertices.
@@ -44,7 +44,7 @@ fn told_cable(
     c: &Merged,
     vertices: &[Option<u32>],
     at: usize,
-    likely: &mut u32,
+    likely: &mut usize,
 ) -> Option<MapCable>
     requires few { length walks.now + 1 < 2 ^ 32 }
     requires nodes { nodes_of walks.now ≡ c.now.nodes }
@@ -58,9 +58,9 @@ fn told_cable(
     let Some((turn, front)) = walks.walk(at).split_last() else {
         return Some(cable_between(c, vertices, 0, 0, node));
     };
-    match find_near(walks, front, *likely) {
+    match walks.find_near(front, *likely) {
         Some(at) => {
-            *likely = at as u32;
+            *likely = at;
             Some(cable_between(c, vertices, (at + 1) as u32, *turn, node))
         }
         None => None,

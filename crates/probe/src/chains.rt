@@ -119,16 +119,30 @@ fn is_same(walk: &[i8], other: &[i8]) -> bool
     walk == other
 }
 
-/// Whether a walk is there: looked for one after another, without the chains.
-pub(crate) fn stands_among<W: WalkList>(walks: &W, turns: &[i8]) -> bool
-    ensures { result ≡ has_walk (W.list walks.now) turns.now }
+/// The place of a walk, looked for one after another, without the chains.
+pub(crate) fn found_among<W: WalkList>(walks: &W, turns: &[i8]) -> Option<usize>
+    ensures place { IfSome result (λ at. slice_get (W.list walks.now) at ≡ Some turns.now) }
+    ensures found { is_some result ≡ has_walk (W.list walks.now) turns.now }
 {
     for at in 0..walks.count() {
         if is_same(walks.turns_at(at), turns) {
-            return true;
+            return Some(at);
         }
     }
-    false
+    None
+}
+
+/// The place of a walk, looked for so from a place on, and from the first where it isn't there.
+pub(crate) fn found_onward<W: WalkList>(walks: &W, turns: &[i8], from: usize) -> Option<usize>
+    ensures place { IfSome result (λ at. slice_get (W.list walks.now) at ≡ Some turns.now) }
+    ensures found { is_some result ≡ has_walk (W.list walks.now) turns.now }
+{
+    for at in from..walks.count() {
+        if is_same(walks.turns_at(at), turns) {
+            return Some(at);
+        }
+    }
+    found_among(walks, turns)
 }
 
 /// Chains all walks, if none is chained yet.

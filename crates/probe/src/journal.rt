@@ -6,7 +6,7 @@ ghost use Rattle.probe.specs.Keeping.{has_walk, with_entry};
 ghost use Rattle.probe.specs.declared.journal.JournalPush.TheVariants.{Known, NoMemory};
 ghost use Rattle.probe.specs.Pushing.{PushesWhere};
 
-use crate::chains::{Chains, add, find, hash_of, index, make_room, no_chains, stands_among};
+use crate::chains::{Chains, add, find, found_among, hash_of, index, make_room, no_chains};
 use crate::walk_list::WalkList;
 use journal_defs::Entry;
 use std::alloc::{AllocError, Global};
@@ -122,7 +122,7 @@ impl Journal {
 fn refusal_without_index(entries: &Vec<Entry>, turns: &[i8]) -> JournalPush
     ensures { result ≡ (if has_walk (map (λ e. e.walk) entries.now.items) turns.now then Known else NoMemory) }
 {
-    if stands_among(entries, turns) {
+    if found_among(entries, turns).is_some() {
         JournalPush::Known
     } else {
         JournalPush::NoMemory

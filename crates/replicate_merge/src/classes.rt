@@ -14,7 +14,7 @@ ghost use Rattle.replicate_merge.specs.Between.{turns_of, with_orphan};
 ghost use Rattle.replicate_merge.specs.Merged.{without_tables};
 
 use crate::at_once::joined_at_once;
-use crate::fronts::{Front, find_near, front_of};
+use crate::fronts::{Front, front_of, is_before};
 use crate::journals::{count_turns, found_walks, orphans_of};
 use crate::merged::Merged;
 use crate::pushing::{asked_behind, ways_added};
@@ -111,12 +111,44 @@ impl Classes {
         ensures pushed { OnOk result (StandsForNext self.old e.now self.new) }
         ensures unchanged { OnErr result (self.new ≡ self.old) }
     {
+        self.index()?;
         let front = self.front_of(e);
-        self.push_at(alloc, e, front)
+        self.go_on(alloc, e, front)
     }
 
-    /// The same, where it is known what stands in front of the entry's walk: no walk is looked for.
+    /// The same, where it is known what stands in front of the entry's walk. No walk is looked for; and while each
+    /// front is that of the entry before it or a later node, no index of walks is made.
     pub fn push_at(&mut self, alloc: Global, e: &Entry, front: Front) -> Result<(), AllocError>
+        requires next { HasNext self.old e.now }
+        requires front { IsFrontOf self.old.nodes e.now.walk front }
+        ensures pushed { OnOk result (StandsForNext self.old e.now self.new) }
+        ensures unchanged { OnErr result (self.new ≡ self.old) }
+    {
+        self.index_at(front)?;
+        self.go_on(alloc, e, front)
+    }
+
+    // Makes the index of walks, unless the fronts come in the order of their nodes: whoever goes through the nodes then
+    // finds each front from the one before on.
+    fn index_at(&mut self, front: Front) -> Result<(), AllocError>
+        ensures { self.new ≡ self.old }
+    {
+        if self.ahead || is_before(front, self.front) {
+            self.index()
+        } else {
+            Ok(())
+        }
+    }
+
+    // Makes the index of walks, if there is none.
+    fn index(&mut self) -> Result<(), AllocError>
+        ensures { self.new ≡ self.old }
+    {
+        self.walks.index()
+    }
+
+    // Goes on to the journal with one entry more, in front of whose walk this stands.
+    fn go_on(&mut self, alloc: Global, e: &Entry, front: Front) -> Result<(), AllocError>
         requires next { HasNext self.old e.now }
         requires front { IsFrontOf self.old.nodes e.now.walk front }
         ensures pushed { OnOk result (StandsForNext self.old e.now self.new) }
@@ -179,7 +211,7 @@ impl Classes {
         )?;
         let asked = asked_behind(alloc, &self.walks, &self.orphans, self.ahead, walk)?;
         take_room(&mut self.joined, &mut self.asked, self.ways.len())?;
-        self.walks.push(alloc, walk)?;
+        self.walks.append(alloc, walk)?;
         self.asked.push_reserved(asked);
         self.joined.grow(&self.walks, &self.ways, asked == TURNS);
         Ok(())
@@ -218,7 +250,8 @@ impl Classes {
         }
     }
 
-    /// The number of the node of a walk; none where the walk found nothing, or isn't in the journal.
+    /// The number of the node of a walk; none where the walk found nothing, or isn't in the journal. Classes without an
+    /// index of walks (see [`Classes::push_at`]) are gone through node by node.
     pub fn node_of(&self, w: &Walk) -> Option<u32>
         ensures found { IfSome result (λ n. slice_get self.now.nodes n ≡ Some (Reached w.now)) }
         ensures missing { result ≡ None → (n : ℕ) → slice_get self.now.nodes n ≢ Some (Reached w.now) }
@@ -234,7 +267,8 @@ impl Classes {
         ensures found { IfSome result (λ n. slice_get self.now.nodes n ≡ Some (Reached w.now)) }
         ensures missing { result ≡ None → (n : ℕ) → slice_get self.now.nodes n ≢ Some (Reached w.now) }
     {
-        match find_near(&self.walks, w.turns(), likely.saturating_sub(1)) {
+        let place = likely.saturating_sub(1);
+        match self.walks.find_near(w.turns(), place as usize) {
             Some(at) => Some((at + 1) as u32),
             None => None,
         }

@@ -1,7 +1,6 @@
 //! What stands in front of a walk's last turn.
 
-ghost use Rattle.std.specs.Prelude.{◌≡◌, ◌+◌, ◌<◌, ◌^◌, length, slice_get, true, is_some, Some, IfSome};
-ghost use Rattle.probe.specs.Keeping.{has_walk};
+ghost use Rattle.std.specs.Prelude.{◌≡◌, ◌+◌, ◌<◌, ◌^◌, length};
 ghost use Rattle.replicate_merge.specs.Between.{IsFrontOf};
 ghost use Rattle.replicate_merge.specs.Nodes.{nodes_of};
 
@@ -28,30 +27,19 @@ pub(crate) fn front_of(walks: &WalkIndex, walk: &[i8], likely: u32) -> Front
     let Some((turn, front)) = walk.split_last() else {
         return Front::Mapper;
     };
-    match find_near(walks, front, likely) {
+    match walks.find_near(front, likely as usize) {
         Some(at) => Front::Node((at + 1) as u32, *turn),
         None => Front::Missing,
     }
 }
 
-/// The place of a walk, counted from 0; none where it isn't there. A place where it is likely to stand is looked at
-/// first.
-pub fn find_near(walks: &WalkIndex, turns: &[i8], likely: u32) -> Option<usize>
-    ensures place { IfSome result (λ at. slice_get walks.now at ≡ Some turns.now) }
-    ensures found { is_some result ≡ has_walk walks.now turns.now }
-{
-    if is_at(walks, turns, likely as usize) {
-        Some(likely as usize)
-    } else {
-        walks.find(turns)
+/// Whether a front is no node whose walk stands at a place or behind it.
+pub(crate) fn is_before(front: Front, place: u32) -> bool {
+    match front {
+        Front::Mapper => false,
+        Front::Node(node, _) => node <= place,
+        Front::Missing => true,
     }
-}
-
-// Whether a walk stands at a place.
-fn is_at(walks: &WalkIndex, turns: &[i8], at: usize) -> bool
-    ensures { result ≡ true → slice_get walks.now at ≡ Some turns.now }
-{
-    at < walks.len() && walks.walk(at) == turns
 }
 
 /// The number that the next node is likely to have, after an answer to which one had this number.

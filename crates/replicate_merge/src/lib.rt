@@ -62,7 +62,7 @@ mod ways;
 
 pub use classes::Classes;
 pub(crate) use frames::Frames;
-pub use fronts::{Front, find_near, number_after};
+pub use fronts::{Front, number_after};
 pub(crate) use heads::{Head, Heads};
 pub(crate) use meeting::{HostNode, Meeting};
 pub use merged::Merged;

@@ -54,20 +54,20 @@ returns-in_err-take_room-clause-unchanged c =
     let s = c.self.inside in
     on-err c.from_residual-in_err-take_room.result (room-view s.walks s.walks s.joined c.take_room.new.joined s.asked.items c.take_room.new.asked.items s.orphans s.ahead refl c.take_room.ensures.same c.take_room.ensures.same_asked ∙ c.self.view_is)
 
-pub push-requires : goal.push-requires
-push-requires c =
+pub append-requires : goal.append-requires
+append-requires c =
     let s = c.self.inside in
     ap (has_walk s.walks) c.turns-walk.ensures.value ∙ new-walk c.args.self.now c.args.e.now s.walks s.joined s.asked.items s.orphans s.ahead c.self.view_is c.requires.next
 
-pub invariant_of-self-in_err-push : goal.invariant_of-self-in_err-push
-invariant_of-self-in_err-push c =
+pub invariant_of-self-in_err-append : goal.invariant_of-self-in_err-append
+invariant_of-self-in_err-append c =
     let s = c.self.inside in
-    room-whole s.walks c.push.new.self s.joined c.take_room.new.joined s.asked.items c.take_room.new.asked.items s.orphans s.ahead c.in_err-push.ensures.err c.take_room.ensures.same c.take_room.ensures.same_asked c.self.invariant
+    room-whole s.walks c.append.new.self s.joined c.take_room.new.joined s.asked.items c.take_room.new.asked.items s.orphans s.ahead c.in_err-append.ensures.err c.take_room.ensures.same c.take_room.ensures.same_asked c.self.invariant
 
-pub returns-in_err-push-clause-unchanged : goal.returns-in_err-push-clause-unchanged
-returns-in_err-push-clause-unchanged c =
+pub returns-in_err-append-clause-unchanged : goal.returns-in_err-append-clause-unchanged
+returns-in_err-append-clause-unchanged c =
     let s = c.self.inside in
-    on-err c.from_residual-in_err-push.result (room-view s.walks c.push.new.self s.joined c.take_room.new.joined s.asked.items c.take_room.new.asked.items s.orphans s.ahead c.in_err-push.ensures.err c.take_room.ensures.same c.take_room.ensures.same_asked ∙ c.self.view_is)
+    on-err c.from_residual-in_err-append.result (room-view s.walks c.append.new.self s.joined c.take_room.new.joined s.asked.items c.take_room.new.asked.items s.orphans s.ahead c.in_err-append.ensures.err c.take_room.ensures.same c.take_room.ensures.same_asked ∙ c.self.view_is)
 
 pub grow-requires-clause-may : goal.grow-requires-clause-may
 grow-requires-clause-may c =
@@ -77,8 +77,8 @@ grow-requires-clause-may c =
     let room = c.take_room.new.joined in
     let ways = c.ways_added.new.ways.items in
     let count = c.in_ok-asked.asked in
-    let after = c.push.new.self in
-    subst (λ (ws : List Way). MayGrow (nodes_of after) room ws (nat_eq count 30)) (sym c.deref.ensures.value) (node-may c.args.self.now e s.walks s.joined room s.asked.items s.orphans s.ahead c.self.view_is c.take_room.ensures.same c.requires.found walk c.turns-walk.ensures.value ways c.in_ok-ways_added.ensures count c.in_ok-asked.ensures.looked c.in_ok-asked.ensures.none after c.in_ok-push.ensures.ok c.requires.next)
+    let after = c.append.new.self in
+    subst (λ (ws : List Way). MayGrow (nodes_of after) room ws (nat_eq count 30)) (sym c.deref.ensures.value) (node-may c.args.self.now e s.walks s.joined room s.asked.items s.orphans s.ahead c.self.view_is c.take_room.ensures.same c.requires.found walk c.turns-walk.ensures.value ways c.in_ok-ways_added.ensures count c.in_ok-asked.ensures.looked c.in_ok-asked.ensures.none after c.in_ok-append.ensures.ok c.requires.next)
 
 pub grow-requires-clause-closed : goal.grow-requires-clause-closed
 grow-requires-clause-closed c = c.take_room.ensures.same.todo ∙ c.self.invariant.2
@@ -87,7 +87,7 @@ pub grow-requires-clause-few : goal.grow-requires-clause-few
 grow-requires-clause-few c =
     let few = c.self.invariant.0.few in
     let n = count-nodes c.self.inside.walks in
-    let l : length c.push.new.self ≡ length (c.self.inside.walks ++ c.turns-walk.result.now ∷ []) = ap length c.in_ok-push.ensures.ok in
+    let l : length c.append.new.self ≡ length (c.self.inside.walks ++ c.turns-walk.result.now ∷ []) = ap length c.in_ok-append.ensures.ok in
     let m = length-append c.self.inside.walks (c.turns-walk.result.now ∷ []) in
     omega arith
 
@@ -115,12 +115,12 @@ invariant_of-self-2 c =
     let room = c.take_room.new.joined in
     let ways = c.ways_added.new.ways.items in
     let count = c.in_ok-asked.asked in
-    let after = c.push.new.self in
+    let after = c.append.new.self in
     let new = c.grow.new.self in
     let counted = c.push_reserved.new.self.items in
     let counts : counted ≡ s.asked.items ++ count ∷ [] = c.push_reserved.ensures.items ∙ ap (λ (l : List ℕ). l ++ count ∷ []) c.take_room.ensures.same_asked in
     let grows : Grows (nodes_of after) ways (nat_eq count 30) room new = subst (λ (ws : List Way). Grows (nodes_of after) ws (nat_eq count 30) room new) c.deref.ensures.value c.grow.ensures.grows in
-    (node-table c.args.self.now e s.walks s.joined room s.asked.items s.orphans s.ahead c.self.view_is c.take_room.ensures.same c.requires.found walk c.turns-walk.ensures.value ways c.in_ok-ways_added.ensures count c.in_ok-asked.ensures.looked c.in_ok-asked.ensures.none after c.in_ok-push.ensures.ok new grows counted counts c.requires.next, node-shape c.args.self.now e s.walks s.joined room s.asked.items s.orphans s.ahead c.self.view_is c.take_room.ensures.same c.requires.found walk c.turns-walk.ensures.value ways c.in_ok-ways_added.ensures count c.in_ok-asked.ensures.looked c.in_ok-asked.ensures.none after c.in_ok-push.ensures.ok new grows counted counts c.requires.next, c.grow.ensures.done)
+    (node-table c.args.self.now e s.walks s.joined room s.asked.items s.orphans s.ahead c.self.view_is c.take_room.ensures.same c.requires.found walk c.turns-walk.ensures.value ways c.in_ok-ways_added.ensures count c.in_ok-asked.ensures.looked c.in_ok-asked.ensures.none after c.in_ok-append.ensures.ok new grows counted counts c.requires.next, node-shape c.args.self.now e s.walks s.joined room s.asked.items s.orphans s.ahead c.self.view_is c.take_room.ensures.same c.requires.found walk c.turns-walk.ensures.value ways c.in_ok-ways_added.ensures count c.in_ok-asked.ensures.looked c.in_ok-asked.ensures.none after c.in_ok-append.ensures.ok new grows counted counts c.requires.next, c.grow.ensures.done)
 
 pub returns-clause-adds : goal.returns-clause-adds
 returns-clause-adds c =
@@ -130,9 +130,9 @@ returns-clause-adds c =
     let room = c.take_room.new.joined in
     let ways = c.ways_added.new.ways.items in
     let count = c.in_ok-asked.asked in
-    let after = c.push.new.self in
+    let after = c.append.new.self in
     let new = c.grow.new.self in
     let counted = c.push_reserved.new.self.items in
     let counts : counted ≡ s.asked.items ++ count ∷ [] = c.push_reserved.ensures.items ∙ ap (λ (l : List ℕ). l ++ count ∷ []) c.take_room.ensures.same_asked in
     let grows : Grows (nodes_of after) ways (nat_eq count 30) room new = subst (λ (ws : List Way). Grows (nodes_of after) ws (nat_eq count 30) room new) c.deref.ensures.value c.grow.ensures.grows in
-    node-adds c.args.self.now e s.walks s.joined room s.asked.items s.orphans s.ahead c.self.view_is c.take_room.ensures.same c.requires.found walk c.turns-walk.ensures.value ways c.in_ok-ways_added.ensures count c.in_ok-asked.ensures.looked c.in_ok-asked.ensures.none after c.in_ok-push.ensures.ok new grows counted counts
+    node-adds c.args.self.now e s.walks s.joined room s.asked.items s.orphans s.ahead c.self.view_is c.take_room.ensures.same c.requires.found walk c.turns-walk.ensures.value ways c.in_ok-ways_added.ensures count c.in_ok-asked.ensures.looked c.in_ok-asked.ensures.none after c.in_ok-append.ensures.ok new grows counted counts
