@@ -7,9 +7,13 @@ use Rattle.map_defs.specs.declared.vertex.MapCable.{MapCable}
 use Rattle.map_defs.specs.NetMap.{MapPort, far_port, map_ends}
 use Rattle.port_align.specs.declared.end.NodePort.{NodePort}
 
+-- the place of a port among those of its vertex
+abbrev pub place_in : ℤ → ℕ
+place_in p = nat_abs (p +ℤ pos 15)
+
 -- the place of a port
 abbrev pub place_of_port : MapPort → ℕ
-place_of_port d = 31 * d.v + nat_abs (d.p +ℤ pos 15)
+place_of_port d = 31 * d.v + place_in d.p
 
 -- the port at a place of a vertex
 abbrev pub port_at : ℕ → ℕ → MapPort

@@ -12,16 +12,13 @@ ghost use Rattle.net_defs.specs.Turn.{is_turn, IsTurn};
 ghost use Rattle.std.specs.List.{AllByRecursion};
 ghost use Rattle.map_defs.specs.NetMap.{MapPort, first_end, second_end, far_port, map_ends};
 ghost use Rattle.fabric_map.specs.Growing.{are_near};
-ghost use Rattle.fabric_map.specs.Table.{end_of, far_pair, pair_of_end, place_of_port, port_at};
+ghost use Rattle.fabric_map.specs.Table.{end_of, far_pair, pair_of_end, place_in, port_at};
 ghost use Rattle.port_align.specs.Ends.{IsOutside};
 
 use map_defs::MapCable;
 use port_align::{NodePort, PortTable};
 use std::alloc::{AllocError, Global};
 use std::marker::Model;
-
-// The places of one vertex.
-const PORT_PLACES: usize = 31;
 
 // The greatest port; the least is its negative.
 const MAX_PORT: i8 = 15;
@@ -66,7 +63,7 @@ impl Cabling {
         ensures { result ≡ far_pair (far_port self.now record { v = v; p = p }) }
     {
         if is_port(p) {
-            as_pair(self.far.at(place_of(v, p)))
+            as_pair(self.far.at_port(v as usize, place_in(p)))
         } else {
             None
         }
@@ -119,8 +116,10 @@ impl Cabling {
     {
         self.far.lengthen(vertices)?;
         self.cables.push(c)?;
-        self.far.set(place_of(c.v, c.p), Some(port(c.w, c.q)));
-        self.far.set(place_of(c.w, c.q), Some(port(c.v, c.p)));
+        self.far
+            .set_port(c.v as usize, place_in(c.p), Some(port(c.w, c.q)));
+        self.far
+            .set_port(c.w as usize, place_in(c.q), Some(port(c.v, c.p)));
         Ok(())
     }
 
@@ -175,10 +174,11 @@ fn port_at(k: usize) -> i8
     k as i8 - MAX_PORT
 }
 
-// The place of a port.
-fn place_of(v: u32, p: i8) -> usize
+// The place of a port among those of its vertex.
+fn place_in(p: i8) -> usize
     requires { IsTurn p }
-    ensures { result ≡ place_of_port record { v = v; p = p } }
+    ensures value { result ≡ place_in p }
+    ensures inside { result < 31 }
 {
-    PORT_PLACES * v as usize + (p + MAX_PORT) as usize
+    (p + MAX_PORT) as usize
 }

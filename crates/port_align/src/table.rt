@@ -69,13 +69,13 @@ impl PortTable {
         }
     }
 
-    /// What is known at a place; nothing past the last.
-    pub fn at(&self, place: usize) -> Option<NodePort>
-        ensures { result ≡ slice_index_or self.now.items place None }
+    /// What is known at a place of a number; nothing of a number past the last.
+    pub fn at_port(&self, number: usize, place: usize) -> Option<NodePort>
+        requires { place < 31 }
+        ensures { result ≡ slice_index_or self.now.items (31 * number + place) None }
     {
-        let number = place / PLACES;
         if number < self.known.len() {
-            looked(&self.known, &self.rows, number, place % PLACES)
+            looked(&self.known, &self.rows, number, place)
         } else {
             None
         }
@@ -95,20 +95,15 @@ impl PortTable {
         }
     }
 
-    /// Keeps an end at a place, or that none is known.
-    pub fn set(&mut self, place: usize, end: Option<NodePort>)
-        requires { place < length self.old.items }
-        ensures items { self.new.items ≡ set self.old.items place end }
+    /// Keeps an end at a place of a number, or that none is known.
+    pub fn set_port(&mut self, number: usize, place: usize, end: Option<NodePort>)
+        requires there { 31 * number + place < length self.old.items }
+        requires place { place < 31 }
+        ensures items { self.new.items ≡ set self.old.items (31 * number + place) end }
         ensures number_room { self.new.number_room ≡ self.old.number_room }
         ensures row_room { self.new.row_room ≡ self.old.row_room }
     {
-        put(
-            &mut self.known,
-            &mut self.rows,
-            place / PLACES,
-            place % PLACES,
-            end,
-        );
+        put(&mut self.known, &mut self.rows, number, place, end);
     }
 
     /// Room for one number more.

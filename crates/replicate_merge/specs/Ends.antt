@@ -8,9 +8,13 @@ use Rattle.replicate_merge.specs.declared.way.Spot.{Spot}
 use Rattle.replicate_merge.specs.declared.way.Spot.TheVariants.{Address, Port}
 use Rattle.replicate_merge.specs.Work.{Among, Clashes}
 
+-- the place of a port among those of its class
+abbrev pub place_in : ℤ → ℕ
+place_in port = nat_abs (port +ℤ pos 15)
+
 -- the place of a port of a class
 abbrev pub place_of : ℕ → ℤ → ℕ
-place_of class port = 31 * class + nat_abs (port +ℤ pos 15)
+place_of class port = 31 * class + place_in port
 
 -- the far end that is known of a port of a class: none of a port that is no turn
 abbrev pub end_at : List (Option NodePort) → ℕ → ℤ → Option NodePort

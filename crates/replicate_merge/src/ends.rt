@@ -3,7 +3,7 @@
 ghost use Rattle.std.specs.Prelude.{◌≡◌, ◌≢◌, ◌+◌, ◌*◌, ◌<◌, ◌≤◌, ℤ, pos, ◌+ℤ◌, ◌-ℤ◌, length, vec_len, vec_capacity};
 ghost use Rattle.std.specs.Prelude.{None, Some};
 ghost use Rattle.net_defs.specs.Turn.{IsTurn};
-ghost use Rattle.replicate_merge.specs.Ends.{place_of, end_at, known_ends, Puts, MovesEnd};
+ghost use Rattle.replicate_merge.specs.Ends.{place_in, place_of, end_at, known_ends, Puts, MovesEnd};
 ghost use Rattle.replicate_merge.specs.Work.{MovesEnds};
 ghost use Rattle.replicate_merge.specs.declared.way.Spot.TheVariants.{Port};
 
@@ -16,12 +16,13 @@ pub(crate) const PLACES: usize = 31;
 // The port of the middle place is 0.
 const MIDDLE: i16 = 15;
 
-// The place of a port of a class.
-fn place_of(class: u32, port: i16) -> usize
+// The place of a port among those of its class.
+fn place_in(port: i16) -> usize
     requires { IsTurn port }
-    ensures { result ≡ place_of class port }
+    ensures value { result ≡ place_in port }
+    ensures inside { result < 31 }
 {
-    PLACES * class as usize + (port + MIDDLE) as usize
+    (port + MIDDLE) as usize
 }
 
 // The port at a place of its class.
@@ -48,7 +49,7 @@ pub(crate) fn end_at(ends: &PortTable, class: u32, port: i16) -> Option<NodePort
     requires inside { place_of class port < length ends.now.items }
     ensures { result ≡ end_at ends.now.items class port }
 {
-    ends.at(place_of(class, port))
+    ends.at_port(class as usize, place_in(port))
 }
 
 /// Keeps the far end of a port, or that none is known.
@@ -58,7 +59,7 @@ pub(crate) fn set_end(ends: &mut PortTable, class: u32, port: i16, end: Option<N
     ensures puts { Puts (known_ends ends.old.items) (known_ends ends.new.items) (Port class port) end }
     ensures same { length ends.new.items ≡ length ends.old.items }
 {
-    ends.set(place_of(class, port), end);
+    ends.set_port(class as usize, place_in(port), end);
 }
 
 /// Moves the ends of one class to another, whose ports lie so far from its own. Where both have one, the two are to
