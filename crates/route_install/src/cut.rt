@@ -153,7 +153,7 @@ fn entries_of(alloc: Global, routes: &[Route]) -> Result<EntryList, AllocError>
 {
     let mut entries = Vec::with_capacity(alloc, routes.len())?;
     for r in routes {
-        entries.push(entry_of(alloc, r)?)?;
+        entries.push_reserved(entry_of(alloc, r)?);
     }
     Ok(EntryList::new(entries))
 }
