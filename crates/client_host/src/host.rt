@@ -7,7 +7,7 @@ ghost use Rattle.world_defs.specs.Mapping.{is_part};
 ghost use Rattle.world_defs.specs.Table.{active_epoch, revoked_table, has_revoked};
 ghost use Rattle.world_defs.specs.Node.{StagedProbe, StagedPart, port_count, to_send, packet_for, has_staged, given_up};
 ghost use Rattle.world_defs.specs.Node.{node_expired, unacknowledged_on, unacknowledged_to, lane_count, lane_of};
-ghost use Rattle.world_defs.specs.Node.{lane_at, probe_packet};
+ghost use Rattle.world_defs.specs.Node.{lane_at};
 ghost use Rattle.world_defs.specs.Hearing.{hear};
 ghost use Rattle.nic_node.specs.Sending.{once_sent};
 ghost use Rattle.client_host.specs.Held.{unused_host, in_state};
@@ -99,29 +99,6 @@ impl ClientHost {
         ensures { self.new ≡ in_state self.old (record self.old.state { staged = Some (StagedProbe walk looped) }) }
     {
         self.node.ask(walk, looped);
-    }
-
-    /// The packet of a probe of a walk, injected under a number, whatever is staged. The walk of a looped one has at
-    /// most 31 turns.
-    pub fn probe_packet(
-        &self,
-        alloc: Global,
-        number: u64,
-        walk: &Walk,
-        looped: bool,
-    ) -> Result<Packet, AllocError>
-        requires { looped ≡ true → length walk.now ≤ 31 }
-        ensures { IfOk result (λ p. p ≡ probe_packet self.now.host number walk.now looped) }
-    {
-        self.node.probe_packet(alloc, number, walk, looped)
-    }
-
-    /// A probe counts as sent that took the place of what was staged: nothing is staged in that place any more.
-    #[inline(always)]
-    pub fn probe_sent(&mut self)
-        ensures { self.new ≡ in_state self.old (record self.old.state { staged = None }) }
-    {
-        self.node.probe_sent();
     }
 
     /// Stages a part of a table, in the place of what was staged before; it travels by a route. The part is by the

@@ -37,7 +37,7 @@ mod unacknowledged;
 mod world;
 
 pub use adopted_routes::AdoptRefusal;
-pub use client_host::{Message, Said, TokenPlace};
+pub use client_host::{Message, Packet, Said, TokenPlace};
 pub use clients::PortAt;
 pub use faulty_links::{Hop, Run};
 pub use machine::Probed;

@@ -30,6 +30,7 @@ use crate::changing;
 use crate::eight_bits::{flips_have_a_byte, pattern_is_a_byte};
 use crate::machine::{Machine, Probed};
 use adopted_routes::AdoptRefusal;
+use client_host::Packet;
 use faulty_links::{Hop, Run};
 use net_defs::Walk;
 use port_graph::{Fabric, RouteSet};
@@ -101,8 +102,8 @@ impl World {
     /// A host stages a probe by a walk and puts it into its channel, and the packet goes to its end, all at once:
     /// [`World::step`] of [`Event::Ask`], of [`Event::Inject`], and of the advances of the packet. None exactly where
     /// another packet is in the links, a fault is planned for this one, no injection is left, or the host has no
-    /// channel or something staged; then nothing has happened. The packet stands in no channel on its way. Running out
-    /// of memory changes nothing.
+    /// channel or something staged; then nothing has happened. The packet is written into the buffer of the one given,
+    /// and stands in no channel on its way. Running out of memory changes nothing.
     #[inline(always)]
     pub fn probe(
         &mut self,
@@ -110,6 +111,7 @@ impl World {
         host: u16,
         walk: &Walk,
         looped: bool,
+        packet: &mut Packet,
     ) -> Result<Option<Probed>, AllocError>
         requires there { IsHostOf self.old host }
         requires short { looped ≡ true → length walk.now ≤ 31 }
@@ -121,7 +123,7 @@ impl World {
         ensures cables { self.new.links.cables ≡ self.old.links.cables }
         ensures hosts { host_count self.new ≡ host_count self.old }
     {
-        self.machine.probe(alloc, host, walk, looped)
+        self.machine.probe(alloc, host, walk, looped, packet)
     }
 
     /// [`World::step`] of [`Event::Inject`]. Running out of memory changes nothing.

@@ -142,15 +142,6 @@ impl Items {
         }
     }
 
-    /// A probe or a part that was told to send stands no more. It stands in its callers, in which most often none
-    /// stood.
-    #[inline(always)]
-    pub fn unstage(&mut self)
-        ensures { self.new ≡ record self.old { staged = None } }
-    {
-        self.staged = None;
-    }
-
     /// Drops them all. False exactly where none stood.
     pub fn give_up(&mut self) -> bool
         ensures told { result ≡ is_staged self.old }

@@ -30,4 +30,4 @@ pub use items::Items;
 pub use laws::items_are_a_hosts;
 pub use myri_packet::Packet;
 pub use route_parts::RoutePart;
-pub use staged::probe_packet;
+pub use staged::write_probe;

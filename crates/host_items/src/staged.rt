@@ -1,7 +1,7 @@
 //! A probe or a part that a host was told to send.
 
-ghost use Rattle.std.specs.Prelude.{◌≡◌, ◌≤◌, length, true, false, IfOk};
-ghost use Rattle.packet_defs.specs.Packet.{packet_of};
+ghost use Rattle.std.specs.Prelude.{◌≡◌, ◌≤◌, length, true, false, [], IfOk, OnOk, OnErr};
+ghost use Rattle.packet_defs.specs.Packet.{packet_of, with_crc};
 ghost use Rattle.world_defs.specs.Mapping.{MappingBody, mapping_bytes, is_part};
 ghost use Rattle.world_defs.specs.Node.{outgoing_staged, probe_packet, packet_for};
 ghost use Rattle.host_items.specs.Held.{staged_of, IsSendable};
@@ -37,10 +37,8 @@ impl StagedItem {
     }
 }
 
-/// The packet of a probe of a walk, injected by a host under a number. A looped one returns to its host: its walk has
-/// at most 31 turns. It stands in its callers, to which the packet isn't moved.
-#[inline(always)]
-pub fn probe_packet(
+// The packet of a probe of a walk, in a buffer of its own.
+fn probe_packet(
     alloc: Global,
     host: u16,
     number: u64,
@@ -50,34 +48,63 @@ pub fn probe_packet(
     requires { looped ≡ true → length walk.now ≤ 31 }
     ensures { IfOk result (λ p. p ≡ probe_packet host number walk.now looped) }
 {
+    let mut packet = Packet::unwritten(alloc);
+    write_probe(&mut packet, host, number, walk, looped)?;
+    Ok(packet)
+}
+
+/// A packet becomes the one of a probe of a walk, injected by a host under a number, in the buffer that it has. A
+/// looped probe returns to its host: its walk has at most 31 turns. Where memory runs out the packet is as unwritten.
+#[inline(always)]
+pub fn write_probe(
+    packet: &mut Packet,
+    host: u16,
+    number: u64,
+    walk: &Walk,
+    looped: bool,
+) -> Result<(), AllocError>
+    requires { looped ≡ true → length walk.now ≤ 31 }
+    ensures ok { OnOk result (packet.new ≡ probe_packet host number walk.now looped) }
+    ensures err { OnErr result (packet.new ≡ with_crc []) }
+{
     if looped {
-        loop_packet(alloc, host, number, walk)
+        write_loop_probe(packet, host, number, walk)
     } else {
-        host_packet(alloc, host, number, walk)
+        write_host_probe(packet, host, number, walk)
     }
 }
 
 // The packet of a probe that asks a host.
 #[inline(always)]
-fn host_packet(alloc: Global, host: u16, number: u64, walk: &Walk) -> Result<Packet, AllocError>
-    ensures { IfOk result (λ p. p ≡ probe_packet host number walk.now false) }
+fn write_host_probe(
+    packet: &mut Packet,
+    host: u16,
+    number: u64,
+    walk: &Walk,
+) -> Result<(), AllocError>
+    ensures ok { OnOk result (packet.new ≡ probe_packet host number walk.now false) }
+    ensures err { OnErr result (packet.new ≡ with_crc []) }
 {
     let turns = walk.turns();
     let head = host_head(turns, number, host);
-    let bytes = Vec::from_slice(alloc, &head[..2 * turns.len() + 14])?;
-    seal(bytes)
+    packet.write(&head[..2 * turns.len() + 14])
 }
 
 // The packet of a probe that returns.
 #[inline(always)]
-fn loop_packet(alloc: Global, host: u16, number: u64, walk: &Walk) -> Result<Packet, AllocError>
+fn write_loop_probe(
+    packet: &mut Packet,
+    host: u16,
+    number: u64,
+    walk: &Walk,
+) -> Result<(), AllocError>
     requires { length walk.now ≤ 31 }
-    ensures { IfOk result (λ p. p ≡ probe_packet host number walk.now true) }
+    ensures ok { OnOk result (packet.new ≡ probe_packet host number walk.now true) }
+    ensures err { OnErr result (packet.new ≡ with_crc []) }
 {
     let turns = walk.turns();
     let head = loop_head(turns, number, host);
-    let bytes = Vec::from_slice(alloc, &head[..2 * turns.len() + 14])?;
-    seal(bytes)
+    packet.write(&head[..2 * turns.len() + 14])
 }
 
 // Room for a part of a table whose routes are short.

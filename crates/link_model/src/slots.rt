@@ -99,8 +99,8 @@ impl Slot {
     /// The packet after a flip, and whether the flip met it: a marked packet is flipped no more.
     pub fn flip(self, bit: u32, pattern: u8) -> (Slot, bool)
         ensures meets { result.1 ≡ (not self.marked && may_flip self.wire bit pattern) }
-        ensures slot { result.0 ≡ (if result.1 then record self { wire = flipped self.wire bit pattern; marked = result.1 }
-            else self) }
+        ensures slot { result.0 ≡ (if result.1
+            then record self { wire = flipped self.wire bit pattern; marked = result.1 } else self) }
     {
         let Slot {
             packet,

@@ -1,7 +1,7 @@
 //! A packet: reading it, stripping it, flipping it.
 
-ghost use Rattle.std.specs.Prelude.{◌≡◌, ◌<◌, ◌≤◌, ◌++◌, ◌∷◌, [], length, nat_eq, IfOk, IfErr, OnSome, IfNone};
-ghost use Rattle.std.specs.Prelude.{None, Some, IsSome, ◌+◌, ◌*◌};
+ghost use Rattle.std.specs.Prelude.{◌≡◌, ◌<◌, ◌≤◌, ◌++◌, ◌∷◌, [], length, nat_eq, IfOk, IfErr, OnOk, OnErr, OnSome};
+ghost use Rattle.std.specs.Prelude.{IfNone, None, Some, IsSome, ◌+◌, ◌*◌};
 ghost use Rattle.net_defs.specs.Refusal.{Refuses};
 ghost use Rattle.packet_defs.specs.Packet.{head, crc_byte, difference, front_turn, stripped, with_crc};
 ghost use Rattle.packet_defs.specs.Burst.{flipped, masked};
@@ -89,6 +89,28 @@ impl Packet {
             head: BytesMut::from_vec(head),
             difference: 0,
         }
+    }
+
+    /// The packet of no head: what a packet is before it is written.
+    pub fn unwritten(alloc: Global) -> Packet
+        ensures { result ≡ with_crc [] }
+    {
+        Packet {
+            head: BytesMut::new(alloc),
+            difference: 0,
+        }
+    }
+
+    /// Becomes the packet of a head, with the CRC that is due to it, in the buffer that it has. Where memory runs out
+    /// it is as unwritten.
+    pub fn write(&mut self, head: &[u8]) -> Result<(), AllocError>
+        requires { length head.now < MAX_BYTES }
+        ensures ok { OnOk result (self.new ≡ with_crc head.now) }
+        ensures err { OnErr result (self.new ≡ with_crc []) }
+    {
+        self.difference = 0;
+        self.head.clear();
+        self.head.extend_from_slice(head)
     }
 
     // The packet of a head, with this CRC.

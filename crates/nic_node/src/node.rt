@@ -4,13 +4,13 @@ ghost use Rattle.std.specs.Prelude.{◌≡◌, ◌<◌, ◌≤◌, nat_lt, lengt
 ghost use Rattle.std.specs.Prelude.{replicate, IfOk};
 ghost use Rattle.world_defs.specs.Mapping.{is_part};
 ghost use Rattle.world_defs.specs.Node.{StagedProbe, StagedPart, has_staged, given_up, node_expired};
-ghost use Rattle.world_defs.specs.Node.{probe_packet, port_count, unacknowledged_to, lane_count, lane_of, lane_at};
+ghost use Rattle.world_defs.specs.Node.{port_count, unacknowledged_to, lane_count, lane_of, lane_at};
 ghost use Rattle.gm_defs.specs.Body.{is_prio};
 ghost use Rattle.world_defs.specs.Table.{active_epoch, revoked_table, has_revoked};
 ghost use Rattle.nic_node.specs.Held.{unused_node, in_state};
 
 use gm_conn::{Lanes, Message};
-use host_items::{Items, Packet, probe_packet};
+use host_items::Items;
 use host_ports::Ports;
 use net_defs::Walk;
 use route_install::Table;
@@ -84,29 +84,6 @@ impl NicNode {
         ensures { self.new ≡ in_state self.old (record self.old.state { staged = Some (StagedProbe walk looped) }) }
     {
         self.items.ask(walk, looped);
-    }
-
-    /// The packet of a probe of a walk, injected under a number, whatever is staged. The walk of a looped one has at
-    /// most 31 turns.
-    pub fn probe_packet(
-        &self,
-        alloc: Global,
-        number: u64,
-        walk: &Walk,
-        looped: bool,
-    ) -> Result<Packet, AllocError>
-        requires { looped ≡ true → length walk.now ≤ 31 }
-        ensures { IfOk result (λ p. p ≡ probe_packet self.now.host number walk.now looped) }
-    {
-        probe_packet(alloc, self.host, number, walk, looped)
-    }
-
-    /// A probe counts as sent that took the place of what was staged: nothing is staged in that place any more.
-    #[inline(always)]
-    pub fn probe_sent(&mut self)
-        ensures { self.new ≡ in_state self.old (record self.old.state { staged = None }) }
-    {
-        self.items.unstage();
     }
 
     /// Stages a part of a table, in the place of what was staged before; it travels by a route. The part is by the

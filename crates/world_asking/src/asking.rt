@@ -7,7 +7,7 @@ ghost use Rattle.world_defs.specs.Row.{IsPartWay};
 ghost use Rattle.fab_world.specs.Events.{IsHostOf};
 
 use crate::trying::{host_tries, loop_tries};
-use fab_world::World;
+use fab_world::{Packet, World};
 use net_defs::{Answer, Walk};
 use std::alloc::{AllocError, Global};
 use world_drain::give_up_all;
@@ -30,6 +30,7 @@ pub(crate) fn ask(
     mapper: u16,
     tries: u8,
     walk: &Walk,
+    packet: &mut Packet,
 ) -> Result<Asked, AllocError>
     requires there { IsHostOf w.old mapper }
     requires short { length walk.now ≤ 31 }
@@ -40,14 +41,14 @@ pub(crate) fn ask(
     ensures hosts { host_count w.new ≡ host_count w.old }
 {
     give_up_all(alloc, w)?;
-    let hosts = host_tries(alloc, w, mapper, walk, tries)?;
+    let hosts = host_tries(alloc, w, mapper, walk, tries, packet)?;
     if let Some(host) = hosts.found {
         return Ok(Asked {
             answer: Answer::Host(host),
             drowned: false,
         });
     }
-    let loops = loop_tries(alloc, w, mapper, walk, tries)?;
+    let loops = loop_tries(alloc, w, mapper, walk, tries, packet)?;
     Ok(Asked {
         answer: if loops.found {
             Answer::Switch

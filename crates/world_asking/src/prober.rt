@@ -10,7 +10,7 @@ ghost use Rattle.fab_world.specs.Events.{IsHostOf};
 ghost use Rattle.world_asking.specs.Prober.{IsAsked, IsCutAsk, after_ask, next_ask};
 
 use crate::asking::ask;
-use fab_world::World;
+use fab_world::{Packet, World};
 use net_defs::{Answer, Walk};
 use probe::Prober;
 use std::alloc::{AllocError, Global};
@@ -29,6 +29,8 @@ pub struct WorldProber {
     host: u16,
     tries: u8,
     drowned: u64,
+    // The packet of each probe that is alone, one after another.
+    packet: Packet,
 }
 
 impl Model for WorldProber {
@@ -77,6 +79,7 @@ impl WorldProber {
             host,
             tries,
             drowned: 0,
+            packet: Packet::unwritten(alloc),
         }
     }
 
@@ -91,6 +94,7 @@ impl WorldProber {
             host: _,
             tries: _,
             drowned: _,
+            packet: _,
         } = self;
         world
     }
@@ -150,6 +154,7 @@ impl Prober for WorldProber {
             self.host,
             self.tries,
             w,
+            &mut self.packet,
         )?;
         if asked.drowned {
             self.drowned = self.drowned.saturating_add(1);

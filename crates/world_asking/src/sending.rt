@@ -9,7 +9,7 @@ ghost use Rattle.world_defs.specs.Logs as log;
 ghost use Rattle.world_defs.specs.Row.{IsPartWay};
 ghost use Rattle.fab_world.specs.Events.{IsHostOf};
 
-use fab_world::{Effect, Event, Heard, Probed, World};
+use fab_world::{Effect, Event, Heard, Packet, Probed, World};
 use net_defs::{End, Vertex, Walk};
 use std::alloc::{AllocError, Global};
 use world_drain::{Watch, drain_watching, happen, inject};
@@ -41,6 +41,7 @@ pub(crate) fn send_probe(
     host: u16,
     walk: &Walk,
     looped: bool,
+    packet: &mut Packet,
 ) -> Result<SentProbe, AllocError>
     requires there { IsHostOf w.old host }
     requires short { looped ≡ true → length walk.now ≤ 31 }
@@ -60,7 +61,7 @@ pub(crate) fn send_probe(
     ensures hosts { host_count w.new ≡ host_count w.old }
 {
     w.moment();
-    let gone = w.probe(alloc, host, walk, looped)?;
+    let gone = w.probe(alloc, host, walk, looped, packet)?;
     match gone {
         Some(probed) => Ok(carried(host, &probed)),
         None => send_staged(alloc, w, host, walk, looped),

@@ -7,7 +7,7 @@ ghost use Rattle.world_defs.specs.Row.{IsPartWay};
 ghost use Rattle.fab_world.specs.Events.{IsHostOf};
 
 use crate::sending::{send_probe, send_reply};
-use fab_world::World;
+use fab_world::{Packet, World};
 use net_defs::Walk;
 use std::alloc::{AllocError, Global};
 
@@ -33,6 +33,7 @@ pub(crate) fn host_tries(
     mapper: u16,
     walk: &Walk,
     tries: u8,
+    packet: &mut Packet,
 ) -> Result<HostTry, AllocError>
     requires there { IsHostOf w.old mapper }
     ensures found { IfOk result (λ t. t.found
@@ -47,7 +48,7 @@ pub(crate) fn host_tries(
     let mut harmed = true;
     let mut left = tries;
     'trying: while left > 0 {
-        let t = host_try(alloc, w, mapper, walk)?;
+        let t = host_try(alloc, w, mapper, walk, packet)?;
         harmed = both(harmed, t.harmed);
         if t.found.is_some() {
             return Ok(HostTry {
@@ -71,6 +72,7 @@ pub(crate) fn loop_tries(
     mapper: u16,
     walk: &Walk,
     tries: u8,
+    packet: &mut Packet,
 ) -> Result<LoopTry, AllocError>
     requires there { IsHostOf w.old mapper }
     requires short { length walk.now ≤ 31 }
@@ -86,7 +88,7 @@ pub(crate) fn loop_tries(
     let mut harmed = true;
     let mut left = tries;
     'trying: while left > 0 {
-        let t = loop_try(alloc, w, mapper, walk)?;
+        let t = loop_try(alloc, w, mapper, walk, packet)?;
         harmed = both(harmed, t.harmed);
         if t.found {
             return Ok(LoopTry {
@@ -104,7 +106,13 @@ pub(crate) fn loop_tries(
 
 // One try of a host probe: the probe alone, and then the reply of the host that heard it.
 #[tactic(auto, unfolding(world_defs::specs::Logs::host_try))]
-fn host_try(alloc: Global, w: &mut World, mapper: u16, walk: &Walk) -> Result<HostTry, AllocError>
+fn host_try(
+    alloc: Global,
+    w: &mut World,
+    mapper: u16,
+    walk: &Walk,
+    packet: &mut Packet,
+) -> Result<HostTry, AllocError>
     requires there { IsHostOf w.old mapper }
     ensures found { IfOk result (λ t. t.found ≡ (log.host_try mapper walk.now w.old).value.found) }
     ensures harmed { IfOk result (λ t. t.harmed ≡ (log.host_try mapper walk.now w.old).value.harmed) }
@@ -113,7 +121,7 @@ fn host_try(alloc: Global, w: &mut World, mapper: u16, walk: &Walk) -> Result<Ho
     ensures hosts { host_count w.new ≡ host_count w.old }
 {
     let before = w.harmed();
-    let probe = send_probe(alloc, w, mapper, walk, false)?;
+    let probe = send_probe(alloc, w, mapper, walk, false, packet)?;
     let Some(host) = probe.probed else {
         return Ok(HostTry {
             found: None,
@@ -129,7 +137,13 @@ fn host_try(alloc: Global, w: &mut World, mapper: u16, walk: &Walk) -> Result<Ho
 
 // One try of a loopback probe.
 #[tactic(auto, unfolding(world_defs::specs::Logs::loop_try))]
-fn loop_try(alloc: Global, w: &mut World, mapper: u16, walk: &Walk) -> Result<LoopTry, AllocError>
+fn loop_try(
+    alloc: Global,
+    w: &mut World,
+    mapper: u16,
+    walk: &Walk,
+    packet: &mut Packet,
+) -> Result<LoopTry, AllocError>
     requires there { IsHostOf w.old mapper }
     requires short { length walk.now ≤ 31 }
     ensures found { IfOk result (λ t. t.found ≡ (log.loop_try mapper walk.now w.old).value.found) }
@@ -139,7 +153,7 @@ fn loop_try(alloc: Global, w: &mut World, mapper: u16, walk: &Walk) -> Result<Lo
     ensures hosts { host_count w.new ≡ host_count w.old }
 {
     let before = w.harmed();
-    let probe = send_probe(alloc, w, mapper, walk, true)?;
+    let probe = send_probe(alloc, w, mapper, walk, true, packet)?;
     Ok(LoopTry {
         found: probe.returned,
         harmed: probe.used_up || before < w.harmed(),

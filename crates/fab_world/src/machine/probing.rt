@@ -11,6 +11,7 @@ ghost use Rattle.fab_world.specs.Carried.{IsCarriedIn, clear_way, ends_alone};
 
 use super::Machine;
 use client_host::Packet;
+use host_items::write_probe;
 use net_defs::{End, Vertex, Walk};
 use std::alloc::{AllocError, Global};
 use world_defs::{Effect, Why};
@@ -29,7 +30,7 @@ pub struct Probed {
 impl Machine {
     /// An ask of a host, its injection, and the advances of the probe's packet to its end, where no other packet is in
     /// the links, no fault is planned for it, and the host has nothing staged. None where it isn't so, and then nothing
-    /// happened. Running out of memory changes nothing.
+    /// happened. The packet is written into the buffer of the one given. Running out of memory changes nothing.
     #[inline(always)]
     pub(crate) fn probe(
         &mut self,
@@ -37,6 +38,7 @@ impl Machine {
         host: u16,
         walk: &Walk,
         looped: bool,
+        packet: &mut Packet,
     ) -> Result<Option<Probed>, AllocError>
         requires there { IsHostOf self.old host }
         requires short { looped ≡ true → length walk.now ≤ 31 }
@@ -49,7 +51,7 @@ impl Machine {
         ensures err { OnErr result (self.new ≡ self.old) }
     {
         match self.clear_way(host) {
-            Some(c) => Ok(Some(self.carry(alloc, host, c, walk, looped)?)),
+            Some(c) => Ok(Some(self.carry(alloc, host, c, walk, looped, packet)?)),
             None => Ok(None),
         }
     }
@@ -88,6 +90,7 @@ impl Machine {
         c: u16,
         walk: &Walk,
         looped: bool,
+        packet: &mut Packet,
     ) -> Result<Probed, AllocError>
         requires there { IsHostOf self.old host }
         requires channel { IsChannelOf self.old c }
@@ -100,9 +103,9 @@ impl Machine {
         ensures err { OnErr result (self.new ≡ self.old) }
     {
         let number = self.links.injected() + 1;
-        let mut packet = self.at(host).probe_packet(alloc, number, walk, looped)?;
-        let carried = self.links.carry(c, &mut packet);
-        let effect = self.end_alone(alloc, carried.end, &packet)?;
+        write_probe(packet, host, number, walk, looped)?;
+        let carried = self.links.carry(c, packet);
+        let effect = self.end_alone(alloc, carried.end, packet)?;
         Ok(Probed {
             number,
             hops: carried.hops,
