@@ -1,5 +1,5 @@
 -- The fabric as it stands after a pull, a plug and an injection.
-use Rattle.std.proofs.Common.{◌≡◌, ◌≢◌, ◌+◌, ◌*◌, ◌/◌, ◌||◌, ◌&&◌, ℕ, ℤ, suc, Bool, true, false, nat_eq, nat_lt, nat_le, length, List, [], ◌∷◌, ◌++◌, Option, Some, None, is_some, is_none, refl, sym, ap, ◌∙◌, subst, arith, if◌then◌else◌, ⊎_elim}
+use Rattle.std.proofs.Common.{◌≡◌, ◌≢◌, ◌+◌, ◌*◌, ◌/◌, ◌||◌, ◌&&◌, ℕ, suc, Bool, true, false, nat_eq, nat_lt, nat_le, length, List, [], ◌∷◌, ◌++◌, Option, Some, None, is_some, is_none, refl, sym, ap, ◌∙◌, subst, arith, if◌then◌else◌, ⊎_elim}
 use Rattle.std.specs.Prelude.{slice_get, slice_set, Result, Ok, Err, OnErr, IfOk}
 use Rattle.std.specs.List.{filter}
 use Rattle.std.specs.Map.{lookup}
@@ -33,7 +33,7 @@ use Rattle.world_defs.specs.declared.fault.Fault.{Fault}
 use Rattle.world_defs.specs.declared.fault.Fault.TheVariants.{Lose as LoseFault, Repeat as RepeatFault, Hold as HoldFault, Flip as FlipFault, Pull as PullFault}
 use Rattle.world_defs.specs.Node.{Outgoing, to_send}
 use Rattle.world_defs.specs.World.{WorldState, fabric_of, last_count, node_at, keeps_out}
-use Rattle.world_defs.specs.Step.{of_links, pulled, plugged, asked, fault_on, planned_strikes, sent_out, inject_one, inject_into, injected, step}
+use Rattle.world_defs.specs.Step.{of_links, pulled, plugged, fault_on, planned_strikes, sent_out, inject_one, inject_into, injected, step}
 use Rattle.world_defs.proofs.Kept.{sent-cables, step-cables}
 use Rattle.world_defs.proofs.Strikes.{Strike, strike_view, fault_step}
 use Rattle.faulty_links.specs.Held.{pull_end}

@@ -1,5 +1,5 @@
 -- What leaves a host as it was, by what was made of the packet.
-use Rattle.std.proofs.Common.{◌≡◌, ℕ, true, false, true≢false, List, refl, sym}
+use Rattle.std.proofs.Common.{◌≡◌, ℕ, true, true≢false, List, refl, sym}
 use Rattle.gm_defs.specs.declared.token.Took.{Took}
 use Rattle.gm_defs.specs.declared.token.Took.TheVariants.{NotNext, NoToken, Part as TookPart, Whole}
 use Rattle.world_defs.specs.declared.arrival.Arrival.{Arrival}

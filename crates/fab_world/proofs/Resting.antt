@@ -11,7 +11,7 @@ use Rattle.world_defs.specs.Lane.{LaneState, new_lane}
 use Rattle.world_defs.specs.Node.{NodeState, Staged, has_staged, FrameAnswer, Fragment, new_node, lane_at, lane_of, lane_count, lane_route, lanes_of, sends_on, owed_on, due_on, either, first_some, to_send, unacknowledged_to}
 use Rattle.world_defs.specs.World.{WorldState, host_count, node_at}
 use Rattle.faulty_links.specs.Held.{LinksAndPlan}
-use Rattle.client_host.specs.Held.{ServedHost, in_state}
+use Rattle.client_host.specs.Held.{ServedHost}
 use Rattle.client_host.specs.Hosts.{AreHosts, states, no_host}
 use Rattle.fab_world.specs.Held.{world_of}
 use Rattle.fab_world.specs.declared.host_marks.HostMarks.{HostMarks}

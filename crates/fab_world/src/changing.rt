@@ -1,6 +1,6 @@
 //! Events of a world, and its fabric as it follows them.
 
-ghost use Rattle.std.specs.Prelude.{◌≡◌, ◌≢◌, ◌≤◌, length, true, false, None, IfOk, IfSome, OnErr};
+ghost use Rattle.std.specs.Prelude.{◌≡◌, ◌≢◌, length, true, false, None, IfOk, IfSome, OnErr};
 ghost use Rattle.net_defs.specs.Network.{far};
 ghost use Rattle.net_defs.specs.Building.{with_cable};
 ghost use Rattle.world_defs.specs.World.{fabric_of, host_count};

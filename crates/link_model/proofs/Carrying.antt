@@ -15,7 +15,7 @@ use Rattle.link_model.specs.Hop.{IsSentAlong, IsRun}
 use Rattle.link_model.specs.Carried.{course_to, ended, IsCarried}
 use Rattle.link_model.proofs.Counting.{set-set}
 use Rattle.link_model.proofs.Stepping.{written-links}
-use Rattle.link_model.proofs.Runs.{AreOthersEmpty, RunsOut, moved_to, runs-out}
+use Rattle.link_model.proofs.Runs.{RunsOut, moved_to, runs-out}
 
 -- no channel of idle links holds a packet
 pub none-in : (ps : List (Option Held)) → list_all is_none ps ≡ true → (c : ℕ) → get_or ps c None ≡ None

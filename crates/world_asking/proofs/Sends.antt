@@ -1,14 +1,13 @@
 -- A host's injection, and the drain after it, of a packet that was carried to its end at once.
 use Rattle.std.proofs.Common.{◌≡◌, ◌<◌, ◌+◌, ℕ, ℤ, Bool, true, false, ◌&&◌, List, [], ◌∷◌, Option, Some, None, is_some, nat_le, refl, sym, ◌∙◌, ap, subst}
-use Rattle.std.specs.Prelude.{IfSome, Result, Ok, Err, IfOk}
+use Rattle.std.specs.Prelude.{IfSome, Result, Ok}
 use Rattle.net_defs.specs.Route.{host_port}
 use Rattle.world_defs.specs.Crossed.{leaving}
-use Rattle.world_defs.specs.declared.event.Event.TheVariants.{Ask, Inject, Advance}
+use Rattle.world_defs.specs.declared.event.Event.TheVariants.{Ask, Inject}
 use Rattle.world_defs.specs.declared.effect.Effect.{Effect}
-use Rattle.world_defs.specs.declared.effect.Effect.TheVariants.{Injected}
 use Rattle.world_defs.specs.World.{WorldState, host_count, last_count}
 use Rattle.world_defs.specs.Step.{step}
-use Rattle.world_defs.specs.Asking.{is_used_up, number_of, probed_host, returned_in}
+use Rattle.world_defs.specs.Asking.{number_of, probed_host, returned_in}
 use Rattle.world_defs.specs.Logs as log
 use Rattle.fab_world.specs.Held.{IsMoment}
 use Rattle.fab_world.specs.Carried.{IsCarriedIn}

@@ -1,4 +1,4 @@
-use Rattle.std.proofs.Common.{◌≡◌, sym, ap, subst, refl, ◌∙◌}
+use Rattle.std.proofs.Common.{◌≡◌, ap, subst, refl, ◌∙◌}
 use Rattle.std.specs.Prelude.{IfOk, OnOk}
 use Rattle.world_defs.specs.declared.event.Event.TheVariants.{Ask}
 use Rattle.world_defs.specs.World.{WorldState}

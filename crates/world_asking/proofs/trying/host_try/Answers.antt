@@ -1,6 +1,5 @@
-use Rattle.std.proofs.Common.{◌≡◌, false, Some, sym, refl, ◌∙◌}
+use Rattle.std.proofs.Common.{false, Some, sym, refl, ◌∙◌}
 use Rattle.world_defs.specs.World.{WorldState}
-use Rattle.world_defs.specs.Asking.{probed_host}
 use Rattle.world_defs.specs.declared.event.Event.TheVariants.{Ask}
 use Rattle.world_defs.specs.Step.{step}
 use Rattle.world_defs.specs.Logs as log

@@ -1,6 +1,6 @@
 use Rattle.std.proofs.Common.{◌≡◌, ◌<◌, ◌+◌, true, length, ap, sym, subst, ◌∙◌, arith}
 use Rattle.world_defs.specs.Links.{is_idle}
-use Rattle.world_defs.specs.World.{WorldState, last_count}
+use Rattle.world_defs.specs.World.{WorldState}
 use Rattle.link_model.specs.Carried.{IsCarried}
 use Rattle.fab_world.proofs.Probing.{carried-in, end-there, way-idle, way-left}
 use Rattle.fab_world.proofs.machine.Machine.carry.Goals as goal

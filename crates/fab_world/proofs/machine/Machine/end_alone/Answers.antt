@@ -1,9 +1,8 @@
-use Rattle.std.proofs.Common.{◌≡◌, ◌<◌, length, ap, sym, subst, ◌∙◌, arith}
+use Rattle.std.proofs.Common.{◌<◌, ap, sym, subst, ◌∙◌, arith}
 use Rattle.std.specs.Prelude.{IfOk}
 use Rattle.world_defs.specs.World.{WorldState, host_count, last_count}
 use Rattle.world_defs.specs.Hearing.{hear}
 use Rattle.client_host.specs.Held.{in_state}
-use Rattle.fab_world.specs.Held.{world_of}
 use Rattle.fab_world.specs.Carried.{ends_alone}
 use Rattle.fab_world.specs.Resting.{leaves_host}
 use Rattle.fab_world.proofs.Answers.{on-any-err}
