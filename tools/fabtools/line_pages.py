@@ -1,4 +1,4 @@
-"""The lines of a report as docs/FORMATS.md and the tools have them, against the table of lines (crates/line_table)."""
+"""The lines of a report and a map as docs/FORMATS.md and the tools have them, against the tables of lines."""
 
 import re
 from itertools import product
@@ -94,6 +94,11 @@ def of_page(page):
     yield from (f"refused LINE {it}" for row in cells(page, "kind | the line") for it in spans(row[0]))
 
 
+def of_maps(page):
+    """The lines of a map as the page has them."""
+    return [it for row in cells(page, "line of a map") for it in spans(row[0])]
+
+
 def of_tools():
     """The lines that may answer a command, as the tools have them."""
     for form in (it for forms in ANSWERS.values() for it in forms):
@@ -118,10 +123,12 @@ def compared(where, told, rows):
 
 
 def faults(root):
-    """Where the page and the tools tell other lines than the table."""
+    """Where the page and the tools tell other lines than the tables."""
     if not (root / line_rows.TABLE).exists():
         return
-    rows = line_rows.rows((root / line_rows.TABLE).read_text())
-    yield from compared(PAGE, of_page((root / PAGE).read_text()), rows)
+    tables, page = (root / line_rows.TABLE).read_text(), (root / PAGE).read_text()
+    rows = line_rows.rows(tables, line_rows.REPORT)
+    yield from compared(PAGE, of_page(page), rows)
+    yield from compared(PAGE, of_maps(page), line_rows.rows(tables, line_rows.MAP))
     begun = {kind: row for kind, row in rows.items() if not APART.fullmatch(kind)}
     yield from compared(TOOLS, of_tools(), begun)

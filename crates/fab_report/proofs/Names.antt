@@ -1,5 +1,5 @@
 -- What is printed names hosts and switches alone: it is the same whatever the cables.
-use Rattle.std.proofs.Common.{◌≡◌, ℕ, Bool, List, [], ◌∷◌, ◌++◌, slice_get, codes, decimal, Option, Some, None, refl, sym, ◌∙◌, ap}
+use Rattle.std.proofs.Common.{◌≡◌, ℕ, List, [], ◌∷◌, ◌++◌, decimal, refl, sym, ◌∙◌, ap}
 use Rattle.std.specs.Prelude.{flat_map}
 use Rattle.net_defs.specs.declared.vertex.Vertex.{Vertex}
 use Rattle.net_defs.specs.declared.vertex.Vertex.TheVariants.{Host, Switch}
@@ -7,14 +7,13 @@ use Rattle.net_defs.specs.Network.{Network, NamedSwitch}
 use Rattle.net_defs.specs.Building.{name_of}
 use Rattle.map_defs.specs.declared.vertex.MapVertex.{MapVertex}
 use Rattle.map_defs.specs.declared.vertex.MapVertex.TheVariants.{Host as MapHost, Switch as MapSwitch}
-use Rattle.map_defs.specs.declared.vertex.MapCable.{MapCable}
 use Rattle.map_defs.specs.NetMap.{NetMap}
 use Rattle.fab_text.specs.Written.{line_text as line_of}
-use Rattle.line_table.specs.Texts.{turn_text, vertex_text}
+use Rattle.line_table.specs.Texts.{vertex_text}
 use Rattle.line_table.specs.Form.{Slot, Fixed, Of, AnEnd, AnEndBy, Rest, LineValue, VertexAt, EndAt, words_of_value, words_by, fill}
-use Rattle.line_table.specs.Table.{form_of}
+use Rattle.line_table.specs.Table.{form_of, map_form}
 use Rattle.run_defs.specs.LineRows.{line_kind, line_values}
-use Rattle.run_defs.specs.LineText.{vertex_words, vertices_text, vertex_at, cable_words, map_text, piece_text, output_text}
+use Rattle.run_defs.specs.LineText.{MapLine, map_line_text, map_lines, end_line, map_text, piece_text, output_text}
 use Rattle.run_defs.specs.Output.{Piece, OneLine, MapLines}
 use Rattle.run_defs.specs.Summary.{figures_in}
 use Rattle.fab_report.specs.Printed.{printed_of}
@@ -58,35 +57,18 @@ fill-bare n (AnEndBy w ∷ ss) [] = refl
 fill-bare n (AnEndBy w ∷ ss) (v ∷ vs) = λ i. by-bare n w v i ++ fill-bare n ss vs i
 fill-bare n (Rest k ∷ ss) vs = values-bare n vs
 
--- the lines of a map
-marked-bare : (n : Network) (v : MapVertex) (core : Bool) → vertex_words n v core ≡ vertex_words (bare n) v core
-marked-bare n (MapHost h) core = refl
-marked-bare n (MapSwitch s) core = refl
-
-vertices-bare : (n : Network) (vs : List MapVertex) (cs : List Bool) → vertices_text n vs cs ≡ vertices_text (bare n) vs cs
-vertices-bare n [] cs = refl
-vertices-bare n (v ∷ vs) [] = refl
-vertices-bare n (v ∷ vs) (c ∷ cs) = ap (λ ws. line_of ws ++ vertices_text n vs cs) (marked-bare n v c) ∙ ap (λ rest. line_of (vertex_words (bare n) v c) ++ rest) (vertices-bare n vs cs)
-
-at-bare : (n : Network) (o : Option MapVertex) → vertex_at n o ≡ vertex_at (bare n) o
-at-bare n None = refl
-at-bare n (Some v) = vertex-bare n v
-
-cable-bare : (n : Network) (m : NetMap) (c : MapCable) → cable_words n m c ≡ cable_words (bare n) m c
-cable-bare n m c =
-    ap (λ v. codes "cable" ∷ v ∷ turn_text c.p ∷ vertex_at n (slice_get m.vertices c.w) ∷ turn_text c.q ∷ []) (at-bare n (slice_get m.vertices c.v))
-    ∙ ap (λ w. codes "cable" ∷ vertex_at (bare n) (slice_get m.vertices c.v) ∷ turn_text c.p ∷ w ∷ turn_text c.q ∷ []) (at-bare n (slice_get m.vertices c.w))
-
 each-same : {X : Type 0} (f g : X → List ℕ) → ((x : X) → f x ≡ g x) → (xs : List X) → flat_map f xs ≡ flat_map g xs
 each-same f g same [] = refl
 each-same f g same (x ∷ xs) = ap (λ t. t ++ flat_map f xs) (same x) ∙ ap (λ rest. g x ++ rest) (each-same f g same xs)
 
+-- the lines of a map
+line-bare : (n : Network) (l : MapLine) → map_line_text n l ≡ map_line_text (bare n) l
+line-bare n l = ap line_of (fill-bare n (map_form l.kind) l.values)
+
 map-bare : (n : Network) (m : NetMap) → map_text n m ≡ map_text (bare n) m
 map-bare n m =
-    let cables : Network → List ℕ = λ k. flat_map (λ c. line_of (cable_words k m c)) m.cables in
-    let all : cables n ≡ cables (bare n) = each-same (λ c. line_of (cable_words n m c)) (λ c. line_of (cable_words (bare n) m c)) (λ c. ap line_of (cable-bare n m c)) m.cables in
-    ap (λ t. t ++ cables n ++ line_of (codes "endmap" ∷ [])) (vertices-bare n m.vertices m.core)
-    ∙ ap (λ t. vertices_text (bare n) m.vertices m.core ++ t ++ line_of (codes "endmap" ∷ [])) all
+    let lines = each-same (map_line_text n) (map_line_text (bare n)) (line-bare n) (map_lines m) in
+    λ i. lines i ++ line-bare n end_line i
 
 -- all that is printed
 piece-bare : (n : Network) (p : Piece) → piece_text n p ≡ piece_text (bare n) p

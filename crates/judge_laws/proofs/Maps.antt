@@ -6,9 +6,8 @@ use Rattle.map_defs.specs.NetMap.{NetMap}
 use Rattle.fab_text.specs.declared.fault.FaultKind.{FaultKind}
 use Rattle.fab_text.specs.Line.{TextLine, lines_from, line_count, saying, says_nothing, is_line_end, is_return, begins_with_end, onto_first_line, words_of}
 use Rattle.fab_text.specs.Fault.{FirstFault, at_line, and_then}
-use Rattle.fab_text.specs.Written.{line_text as line_of}
 use Rattle.fabric_map.specs.Growing.{empty_map}
-use Rattle.run_defs.specs.LineText.{map_text, vertices_text, cable_words}
+use Rattle.run_defs.specs.LineText.{map_text, map_lines, map_line_text}
 use Rattle.map_canon.specs.Declaring.{declared}
 use Rattle.map_canon.specs.Reading.{is_end, ended, map_until, part_of, map_from, map_part, map_reading}
 use Rattle.judge_laws.specs.Answers.{lines_at}
@@ -157,7 +156,7 @@ ended-first n m past number bytes rest e =
 -- the lines of a printed map are read so
 pub map-first : (n : Network) (m : NetMap) (past number : ℕ) (rest : List ℕ) → map_reading n (map_text n m) ≡ Ok m → IsMapFirst n m past number (map_text n m ++ rest) rest
 map-first n m past number rest e =
-    let front = vertices_text n m.vertices m.core ++ flat_map (λ c. line_of (cable_words n m c)) m.cables in
+    let front = flat_map (map_line_text n) (map_lines m) in
     let bytes = front ++ codes "endmap" in
     let ends : map_text n m ≡ bytes ++ 10 ∷ [] = sym (append_assoc front (codes "endmap") (10 ∷ [])) in
     let more : map_text n m ++ rest ≡ bytes ++ 10 ∷ rest = ap (λ t. t ++ rest) ends ∙ append_assoc bytes (10 ∷ []) rest in

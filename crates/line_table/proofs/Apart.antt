@@ -1,5 +1,5 @@
 -- A line of one form is no line of a form apart from it.
-use Rattle.std.proofs.Common.{◌≡◌, ◌||◌, ℕ, List, [], ◌∷◌, ◌++◌, Bool, true, false, not, Option, Some, None, option_map, Ok, Err, nat_le, refl, ap, sym, ◌∙◌, true≢false, if◌then◌else◌}
+use Rattle.std.proofs.Common.{◌≡◌, ◌≢◌, ◌||◌, ℕ, List, [], ◌∷◌, ◌++◌, Bool, true, false, not, Option, Some, None, option_map, Ok, Err, nat_le, refl, ap, sym, ◌∙◌, true≢false, if◌then◌else◌}
 use Rattle.std.specs.Prelude.{bytes_eq}
 use Rattle.std.specs.List.{list_all}
 use Rattle.std.proofs.lemmas.Slice.Eq.{bytes_eq-Decides}
@@ -9,6 +9,8 @@ use Rattle.net_defs.proofs.Ends.{both}
 use Rattle.fab_text.specs.declared.fault.NumFault.TheVariants.{NotNumber, TooLarge}
 use Rattle.fab_text.specs.Word.{number_test}
 use Rattle.fabric_file.specs.Reading.{AreNamed}
+use Rattle.line_table.specs.declared.kind.MapLineKind.{MapLineKind}
+use Rattle.line_table.specs.declared.kind.MapLineKind.TheVariants.{Host as HostLine, Switch as SwitchLine, Cable as CableLine, End as EndLine}
 use Rattle.line_table.specs.Said.{where_read}
 use Rattle.line_table.specs.Form.{WordKind, Digits, NumberTo, HostName, Turn, MapPlace, Hex, OneOf, EntryOr}
 use Rattle.line_table.specs.Form.{Slot, Fixed, Of, AnEnd, AnEndBy, Rest}
@@ -16,6 +18,7 @@ use Rattle.line_table.specs.Form.{LineValue, Number, EndAt, fill}
 use Rattle.line_table.specs.Matching.{is_among, where_so, word_said, onto, matched}
 use Rattle.line_table.specs.Fits.{IsOf, AreOf}
 use Rattle.line_table.specs.Apart.{is_outside, is_disjoint, is_apart}
+use Rattle.line_table.specs.Table.{map_form}
 use Rattle.line_table.proofs.Filled.{IsRead, value-read}
 
 either : (a b : Bool) (X : Type 0) → (a || b) ≡ true → (a ≡ true → X) → (b ≡ true → X) → X
@@ -157,3 +160,11 @@ module _ (n : Network) (is : IsFabric n) (good : AreNamed n) where
   apart-unmatched (AnEnd ∷ ss) (Rest l ∷ us) vs fits e = never e
   apart-unmatched (AnEndBy b ∷ ss) (Rest l ∷ us) vs fits e = never e
   apart-unmatched (Rest k ∷ ss) (Rest l ∷ us) vs fits e = never e
+
+-- each row of a map's lines is apart from the others
+pub map-rows-apart : (k l : MapLineKind) → k ≢ l → is_apart (map_form k) (map_form l) ≡ true
+map-rows-apart HostLine HostLine differ = absurd (differ refl)
+map-rows-apart SwitchLine SwitchLine differ = absurd (differ refl)
+map-rows-apart CableLine CableLine differ = absurd (differ refl)
+map-rows-apart EndLine EndLine differ = absurd (differ refl)
+map-rows-apart _ _ differ = refl

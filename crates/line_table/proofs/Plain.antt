@@ -15,6 +15,8 @@ use Rattle.fabric_file.proofs.Names.{name-names, vertex-there}
 use Rattle.fabric_file.proofs.PlainWords.{numeral-plain, digits-plain, number-plain, name-plain}
 use Rattle.line_table.specs.declared.kind.LineKind.{LineKind}
 use Rattle.line_table.specs.declared.kind.LineKind.TheVariants.{Refused}
+use Rattle.line_table.specs.declared.kind.MapLineKind.{MapLineKind}
+use Rattle.line_table.specs.declared.kind.MapLineKind.TheVariants.{Host as HostLine}
 use Rattle.line_table.specs.Texts.{turn_text}
 use Rattle.line_table.specs.Form.{WordKind, Digits, NumberTo, HostName, Turn, MapPlace, Hex, OneOf, EntryOr}
 use Rattle.line_table.specs.Form.{Slot, Fixed, Of, AnEnd, AnEndBy, Rest}
@@ -23,7 +25,7 @@ use Rattle.line_table.specs.Form.{words_of_value, fill}
 use Rattle.line_table.specs.Matching.{is_among}
 use Rattle.line_table.specs.Fits.{IsOf, AreOf}
 use Rattle.line_table.specs.Apart.{is_plain_kind, is_plain_form}
-use Rattle.line_table.specs.Table.{form_of}
+use Rattle.line_table.specs.Table.{form_of, map_form}
 use Rattle.line_table.proofs.Bytes.{bytes-plain}
 
 more-plain : (xs ys : List ℕ) → list_all is_plain_byte xs ≡ true → list_all is_plain_byte ys ≡ true → list_all is_plain_byte (xs ++ ys) ≡ true
@@ -107,3 +109,7 @@ module _ (n : Network) (is : IsFabric n) (good : AreNamed n) where
 pub rows-plain : (k : LineKind) → is_plain_form (form_of k) ≡ true
 rows-plain Refused = refl
 rows-plain _ = refl
+
+pub map-rows-plain : (k : MapLineKind) → is_plain_form (map_form k) ≡ true
+map-rows-plain HostLine = refl
+map-rows-plain _ = refl

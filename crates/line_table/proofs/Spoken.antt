@@ -4,11 +4,13 @@ use Rattle.net_defs.specs.Network.{Network}
 use Rattle.fab_text.specs.Line.{says_nothing}
 use Rattle.line_table.specs.declared.kind.LineKind.{LineKind}
 use Rattle.line_table.specs.declared.kind.LineKind.TheVariants.{Refused}
+use Rattle.line_table.specs.declared.kind.MapLineKind.{MapLineKind}
+use Rattle.line_table.specs.declared.kind.MapLineKind.TheVariants.{Host as HostLine}
 use Rattle.line_table.specs.Form.{OneOf}
 use Rattle.line_table.specs.Form.{Slot, Fixed, Of, AnEnd, AnEndBy, Rest, LineValue, Word, fill}
 use Rattle.line_table.specs.Fits.{AreOf}
 use Rattle.line_table.specs.Apart.{is_spoken, is_spoken_form}
-use Rattle.line_table.specs.Table.{form_of}
+use Rattle.line_table.specs.Table.{form_of, map_form}
 use Rattle.line_table.proofs.Plain.{among-holds}
 
 not-false : (t : Bool) → not t ≡ true → t ≡ false
@@ -29,3 +31,7 @@ filled-spoken n (Rest k ∷ ss) vs p fits = absurd (true≢false (sym p))
 pub rows-spoken : (k : LineKind) → is_spoken_form (form_of k) ≡ true
 rows-spoken Refused = refl
 rows-spoken _ = refl
+
+pub map-rows-spoken : (k : MapLineKind) → is_spoken_form (map_form k) ≡ true
+map-rows-spoken HostLine = refl
+map-rows-spoken _ = refl

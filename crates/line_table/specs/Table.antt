@@ -1,4 +1,4 @@
--- The table of lines: the form of each kind.
+-- The tables of lines: the form of each kind.
 use Rattle.std.specs.Prelude.{◌-◌, ◌^◌, List, [], ◌∷◌, codes}
 use Rattle.line_table.specs.declared.kind.LineKind.{LineKind}
 use Rattle.line_table.specs.declared.kind.LineKind.TheVariants.{Refused, WalkHost, WalkSwitch, WalkNothing}
@@ -13,6 +13,8 @@ use Rattle.line_table.specs.declared.kind.LineKind.TheVariants.{Pulled, PullRefu
 use Rattle.line_table.specs.declared.kind.LineKind.TheVariants.{Broken, EndBroken, NoBroken, GenHead, GenComplete}
 use Rattle.line_table.specs.declared.kind.LineKind.TheVariants.{GenDoubtful, GenDepth, GenNodes, GenCount, DuoDid}
 use Rattle.line_table.specs.declared.kind.LineKind.TheVariants.{DuoCounted, DuoRefused, DuoReceived}
+use Rattle.line_table.specs.declared.kind.MapLineKind.{MapLineKind}
+use Rattle.line_table.specs.declared.kind.MapLineKind.TheVariants.{Host, Switch, Cable, End}
 use Rattle.line_table.specs.Form.{WordKind, Digits, NumberTo, HostName, Turn, MapPlace, Hex, OneOf, EntryOr}
 use Rattle.line_table.specs.Form.{Slot, Fixed, Of, AnEnd, AnEndBy, Rest}
 
@@ -137,3 +139,10 @@ form_of DuoRefused =
     Fixed (codes "duo") ∷ Fixed (codes "refused") ∷ Of (OneOf (codes "notoken" ∷ codes "toolong" ∷ codes "spent"
     ∷ codes "badsize" ∷ [])) ∷ []
 form_of DuoReceived = Fixed (codes "duo") ∷ Fixed (codes "received") ∷ Of Digits ∷ Of Hex ∷ []
+
+-- The form of each kind of line of a map.
+abbrev pub map_form : MapLineKind → List Slot
+map_form Host = Fixed (codes "host") ∷ Of HostName ∷ []
+map_form Switch = Fixed (codes "switch") ∷ Of MapPlace ∷ Of (OneOf (codes "core" ∷ codes "outside" ∷ [])) ∷ []
+map_form Cable = Fixed (codes "cable") ∷ Of MapPlace ∷ Of Turn ∷ Of MapPlace ∷ Of Turn ∷ []
+map_form End = Fixed (codes "endmap") ∷ []

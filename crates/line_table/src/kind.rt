@@ -1,4 +1,4 @@
-//! The kinds of lines.
+//! The kinds of lines of a report, and of a map.
 
 /// A kind of line: one row of the table.
 #[derive(Clone, Copy, Debug, PartialEq, Eq)]
@@ -111,4 +111,17 @@ pub enum LineKind {
     DuoRefused,
     /// `duo received N HEX`
     DuoReceived,
+}
+
+/// A kind of line of a map: one row of the table of a map's lines.
+#[derive(Clone, Copy, Debug, PartialEq, Eq)]
+pub enum MapLineKind {
+    /// `host HOST`
+    Host,
+    /// `switch VERTEX core|outside`
+    Switch,
+    /// `cable VERTEX TURN VERTEX TURN`
+    Cable,
+    /// `endmap`
+    End,
 }

@@ -1,6 +1,6 @@
 -- The hosts of a map that was read are hosts of the fabric.
-use Rattle.std.proofs.Common.{◌≡◌, ◌<◌, ◌+◌, ℕ, List, [], ◌∷◌, Bool, true, false, not, cond, length, nat_lt, Option, Some, None, option_map, Result, Ok, Err, IfOk, refl, ap, sym, subst, ◌∙◌, arith, if◌then◌else◌}
-use Rattle.std.specs.Prelude.{ℤ, position, codes, bytes_eq}
+use Rattle.std.proofs.Common.{◌≡◌, ◌<◌, ◌+◌, ℕ, List, [], ◌∷◌, Bool, true, false, not, cond, length, nat_eq, nat_lt, Option, Some, None, option_map, Result, Ok, Err, IfOk, refl, ap, sym, subst, ◌∙◌, arith, if◌then◌else◌}
+use Rattle.std.specs.Prelude.{ℤ, position, bytes_eq}
 use Rattle.std.specs.List.{prefix_len}
 use Rattle.std.proofs.lemmas.Bool.Decides.{nat_tests}
 use Rattle.net_defs.specs.declared.vertex.Vertex.{Vertex}
@@ -15,13 +15,17 @@ use Rattle.fab_text.specs.declared.fault.FaultKind.{FaultKind}
 use Rattle.fab_text.specs.declared.fault.FaultKind.TheVariants.{BadWord}
 use Rattle.fab_text.specs.declared.fault.TextFault.{TextFault}
 use Rattle.fab_text.specs.declared.fault.TextFault.TheVariants.{At, NoMemory}
-use Rattle.fab_text.specs.Word.{name_test}
-use Rattle.fab_text.specs.Line.{TextLine, lines_left, line_count, words_of, one_of, two_of, four_of}
+use Rattle.fab_text.specs.Line.{TextLine, lines_left, line_count, words_of}
 use Rattle.fab_text.specs.Fault.{FirstFault, TextGives, at_line, and_then}
-use Rattle.fabric_file.specs.Declaring.{where_there}
 use Rattle.fabric_map.specs.declared.fault.MapFault.{MapFault}
 use Rattle.fabric_map.specs.Growing.{empty_map, host_refusal, switch_refusal, cable_refusal, with_host, with_switch, with_cable}
-use Rattle.map_canon.specs.Declaring.{declared, unless, host_declared, host_placed, host_line, switch_declared, switch_line, cable_declared, cable_line, cable_between, mark_word, is_next, end_word, vertex_named}
+use Rattle.line_table.specs.declared.kind.MapLineKind.{MapLineKind}
+use Rattle.line_table.specs.declared.kind.MapLineKind.TheVariants.{Host as HostLine, Switch as SwitchLine, Cable as CableLine, End as EndLine}
+use Rattle.line_table.specs.Said.{address_in}
+use Rattle.line_table.specs.Form.{LineValue, Word, HostAt, TurnBy, VertexAt}
+use Rattle.line_table.specs.Matching.{onto, matched}
+use Rattle.run_defs.specs.LineText.{core_word}
+use Rattle.map_canon.specs.Declaring.{unless, vertex_in, cable_between, placed, args_of, begins, words_formed, row_declared, declared}
 use Rattle.map_canon.specs.Reading.{MapPart, PartGives, is_end, ended, map_from, map_until, part_of, map_part, map_reading}
 use Rattle.map_canon.specs.Printing.{IsOfFabric, AreOfFabric}
 
@@ -46,26 +50,6 @@ unless-is : (refusal : Option MapFault) (m n : NetMap) → unless refusal m ≡ 
 unless-is None m n e = cc
 unless-is (Some x) m n e = cc
 
-placed-kept : (f : Network) (m n : NetMap) (v : Option Vertex) → ((h : ℕ) → v ≡ Some (Host h) → h < length f.hosts) → host_placed m v ≡ Ok n → AreOfFabric f m → AreOfFabric f n
-placed-kept f m n None low e all = cc
-placed-kept f m n (Some (Host h)) low e all = subst (AreOfFabric f) (unless-is (host_refusal m h) (with_host m h) n e) (all-push (IsOfFabric f) m.vertices (MapHost h) all (low h refl))
-placed-kept f m n (Some (Switch s)) low e all = cc
-
-host-kept : (f : Network) (m n : NetMap) (name : List ℕ) → host_declared f m name ≡ Ok n → AreOfFabric f m → AreOfFabric f n
-host-kept f m n name e all = by (name_test name) e
-  where
-    by : (t : Bool) → (if t then host_placed m (fabric_vertex f name) else Err BadWord) ≡ Ok n → AreOfFabric f n
-    by true d = placed-kept f m n (fabric_vertex f name) (host-there f name) d all
-    by false d = cc
-
-switch-kept : (f : Network) (m n : NetMap) (number mark : List ℕ) → switch_declared m number mark ≡ Ok n → AreOfFabric f m → AreOfFabric f n
-switch-kept f m n number mark e all = by (is_next m number) (mark_word mark) e
-  where
-    by : (t : Bool) (r : Result Bool FaultKind) → (if t then and_then r (λ core. unless (switch_refusal m) (with_switch m core)) else Err BadWord) ≡ Ok n → AreOfFabric f n
-    by true (Ok core) d = subst (AreOfFabric f) (unless-is (switch_refusal m) (with_switch m core) n d) (all-push (IsOfFabric f) m.vertices (MapSwitch (length (switches_of m.vertices))) all tt)
-    by true (Err kind) d = cc
-    by false r d = cc
-
 between-kept : (f : Network) (m n : NetMap) (v w : Option ℕ) (p q : ℤ) → cable_between m v p w q ≡ Ok n → AreOfFabric f m → AreOfFabric f n
 between-kept f m n None w p q e all = cc
 between-kept f m n (Some v) None p q e all = cc
@@ -73,35 +57,56 @@ between-kept f m n (Some v) (Some w) p q e all =
     let c : MapCable = record { v = v; p = p; w = w; q = q } in
     subst (AreOfFabric f) (unless-is (cable_refusal m c) (with_cable m c) n e) all
 
-cable-kept : (f : Network) (m n : NetMap) (v p w q : List ℕ) → cable_declared f m v p w q ≡ Ok n → AreOfFabric f m → AreOfFabric f n
-cable-kept f m n v p w q e all = by (end_word v p) (end_word w q) e
+placed-kept : (f : Network) (m n : NetMap) (k : MapLineKind) (o : Option (List LineValue)) → ((h : ℕ) → k ≡ HostLine → o ≡ Some (HostAt h ∷ []) → h < length f.hosts) → placed m k o ≡ Ok n → AreOfFabric f m → AreOfFabric f n
+placed-kept f m n HostLine (Some (HostAt h ∷ [])) low e all = subst (AreOfFabric f) (unless-is (host_refusal m h) (with_host m h) n e) (all-push (IsOfFabric f) m.vertices (MapHost h) all (low h refl refl))
+placed-kept f m n SwitchLine (Some (VertexAt (MapSwitch s) ∷ Word mark ∷ [])) low e all = by (nat_eq s (length (switches_of m.vertices))) e
   where
-    by : (i j : Result ℤ FaultKind) → and_then i (λ i. and_then j (λ j. cable_between m (vertex_named f m v) i (vertex_named f m w) j)) ≡ Ok n → AreOfFabric f n
-    by (Ok i) (Ok j) d = between-kept f m n (vertex_named f m v) (vertex_named f m w) i j d all
-    by (Ok i) (Err kind) d = cc
-    by (Err kind) j d = cc
+    core : Bool
+    core = bytes_eq mark (core_word true)
+
+    by : (t : Bool) → (if t then unless (switch_refusal m) (with_switch m core) else Err BadWord) ≡ Ok n → AreOfFabric f n
+    by true d = subst (AreOfFabric f) (unless-is (switch_refusal m) (with_switch m core) n d) (all-push (IsOfFabric f) m.vertices (MapSwitch (length (switches_of m.vertices))) all tt)
+    by false d = cc
+placed-kept f m n CableLine (Some (VertexAt v ∷ TurnBy p ∷ VertexAt w ∷ TurnBy q ∷ [])) low e all = between-kept f m n (vertex_in m v) (vertex_in m w) p q e all
+placed-kept f m n _ _ low e all = cc
+
+-- the host of a line is one of the fabric
+matched-there : (f : Network) (args : List (List ℕ)) (h : ℕ) → matched f (args_of HostLine) args ≡ Some (HostAt h ∷ []) → h < length f.hosts
+matched-there f [] h e = cc
+matched-there f (w ∷ ws) h e = by (fabric_vertex f w) refl e
+  where
+    by : (v : Option Vertex) → fabric_vertex f w ≡ v → onto (option_map HostAt (address_in v)) (matched f [] ws) ≡ Some (HostAt h ∷ []) → h < length f.hosts
+    by None p d = cc
+    by (Some (Switch s)) p d = cc
+    by (Some (Host g)) p d = alone ws d
+      where
+        alone : (ws : List (List ℕ)) → onto (Some (HostAt g)) (matched f [] ws) ≡ Some (HostAt h ∷ []) → h < length f.hosts
+        alone [] d = let same : g ≡ h = cc in subst (λ a. a < length f.hosts) same (host-there f w g p)
+        alone (x ∷ xs) d = cc
+
+row-kept : (f : Network) (m n : NetMap) (k : MapLineKind) (args : List (List ℕ)) → row_declared f m k args ≡ Ok n → AreOfFabric f m → AreOfFabric f n
+row-kept f m n k args e all = by (nat_eq (length (args_of k)) (length args)) (words_formed (args_of k) args) e
+  where
+    there : (k : MapLineKind) (h : ℕ) → k ≡ HostLine → matched f (args_of k) args ≡ Some (HostAt h ∷ []) → h < length f.hosts
+    there HostLine h is d = matched-there f args h d
+    there SwitchLine h is d = cc
+    there CableLine h is d = cc
+    there EndLine h is d = cc
+
+    by : (t : Bool) (r : Result (Unit {0}) FaultKind) → (if t then and_then r (λ formed. placed m k (matched f (args_of k) args)) else Err BadWord) ≡ Ok n → AreOfFabric f n
+    by true (Ok formed) d = placed-kept f m n k (matched f (args_of k) args) (there k) d all
+    by true (Err kind) d = cc
+    by false r d = cc
 
 -- a line keeps it
 declared-kept : (f : Network) (m n : NetMap) (ws : List (List ℕ)) → declared f m ws ≡ Ok n → AreOfFabric f m → AreOfFabric f n
 declared-kept f m n [] e all = cc
-declared-kept f m n (first ∷ args) e all = by (bytes_eq first (codes "host")) (bytes_eq first (codes "switch")) (bytes_eq first (codes "cable")) e
+declared-kept f m n (first ∷ args) e all = by (begins HostLine first) (begins SwitchLine first) (begins CableLine first) e
   where
-    hosts : (o : Option (List ℕ)) → where_there o (host_declared f m) ≡ Ok n → AreOfFabric f n
-    hosts None d = cc
-    hosts (Some name) d = host-kept f m n name d all
-
-    switches : (o : Option (List ℕ × List ℕ)) → where_there o (λ w. switch_declared m w.0 w.1) ≡ Ok n → AreOfFabric f n
-    switches None d = cc
-    switches (Some w) d = switch-kept f m n w.0 w.1 d all
-
-    cables : (o : Option ((List ℕ × List ℕ) × (List ℕ × List ℕ))) → where_there o (λ w. cable_declared f m w.0.0 w.0.1 w.1.0 w.1.1) ≡ Ok n → AreOfFabric f n
-    cables None d = cc
-    cables (Some w) d = cable-kept f m n w.0.0 w.0.1 w.1.0 w.1.1 d all
-
-    by : (h s c : Bool) → (if h then host_line f m args else if s then switch_line m args else if c then cable_line f m args else Err BadWord) ≡ Ok n → AreOfFabric f n
-    by true s c d = hosts (one_of args) d
-    by false true c d = switches (two_of args) d
-    by false false true d = cables (four_of args) d
+    by : (h s c : Bool) → (if h then row_declared f m HostLine args else if s then row_declared f m SwitchLine args else if c then row_declared f m CableLine args else Err BadWord) ≡ Ok n → AreOfFabric f n
+    by true s c d = row-kept f m n HostLine args d all
+    by false true c d = row-kept f m n SwitchLine args d all
+    by false false true d = row-kept f m n CableLine args d all
     by false false false d = cc
 
 ended-is : (m n : NetMap) (ls : List TextLine) → ended m ls ≡ Ok n → m ≡ n

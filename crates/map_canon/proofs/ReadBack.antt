@@ -1,39 +1,35 @@
 -- A printed map is read back: its vertices, then its cables.
-use Rattle.std.proofs.Common.{◌≡◌, ◌≢◌, ◌<◌, ℕ, zero, suc, ◌+◌, ◌^◌, List, [], ◌∷◌, ◌++◌, ◌||◌, Bool, true, false, length, nat_eq, nat_lt, Some, None, Ok, Err, refl, ap, sym, subst, ◌∙◌, append_assoc, append-nil, length-append, arith, if◌then◌else◌, ◌⊎◌, inl, inr}
-use Rattle.std.specs.Prelude.{codes, decimal, flat_map, slice_get}
+use Rattle.std.proofs.Common.{◌≡◌, ◌≢◌, ◌<◌, ℕ, zero, suc, ◌+◌, ◌^◌, List, [], ◌∷◌, ◌++◌, map, ◌||◌, Bool, true, false, length, nat_eq, nat_lt, Option, Some, None, Ok, Err, refl, ap, sym, subst, ◌∙◌, append_assoc, append-nil, length-append, arith, if◌then◌else◌, ◌⊎◌, inl, inr}
+use Rattle.std.specs.Prelude.{codes, slice_get, unwrap_or, bytes_eq}
 use Rattle.std.specs.List.{AllByRecursion, list_any}
 use Rattle.std.proofs.lemmas.Bool.{cases_order}
 use Rattle.std.proofs.lemmas.Bool.Decides.{nat_tests, Decides-eqb}
-use Rattle.net_defs.specs.declared.vertex.Vertex.TheVariants.{Host as FabricHost}
-use Rattle.net_defs.specs.Network.{Network, IsFabric, Apart}
+use Rattle.net_defs.specs.Network.{Network, Apart}
 use Rattle.net_defs.specs.Turn.{IsTurn}
 use Rattle.journal_defs.specs.Counting.{numbers_below}
-use Rattle.journal_defs.proofs.Members.{length-numbers}
+use Rattle.journal_defs.proofs.Members.{length-numbers, all-join}
 use Rattle.map_defs.specs.declared.vertex.MapVertex.{MapVertex}
 use Rattle.map_defs.specs.declared.vertex.MapVertex.TheVariants.{Host, Switch}
 use Rattle.map_defs.specs.declared.vertex.MapCable.{MapCable}
-use Rattle.map_defs.specs.NetMap.{NetMap, MapPort, IsMap, first_end, second_end, map_ends, host_at, hosts_of, switches_of}
+use Rattle.map_defs.specs.NetMap.{NetMap, IsMap, map_ends, host_at, hosts_of, switches_of}
 use Rattle.map_defs.specs.Routing.{is_host_named}
 use Rattle.fab_text.specs.declared.fault.FaultKind.TheVariants.{BadWord}
 use Rattle.fab_text.specs.Line.{lines_left, line_count}
-use Rattle.fab_text.specs.Fault.{and_then, as_kind}
-use Rattle.fab_text.specs.Written.{line_text}
-use Rattle.fabric_file.specs.Reading.{AreNamed}
-use Rattle.fabric_file.proofs.Names.{name-names, apart-before, all-nth}
-use Rattle.fabric_file.specs.Plain.{is_plain}
-use Rattle.fabric_file.proofs.PlainWords.{name-plain}
+use Rattle.fab_text.specs.Fault.{and_then}
+use Rattle.fabric_file.proofs.Names.{apart-before, all-nth}
 use Rattle.fabric_map.specs.declared.fault.MapFault.TheVariants.{HostTaken, Full}
-use Rattle.fabric_map.specs.Growing.{IsFabricMap, empty_map, switch_refusal, cable_refusal, with_host, with_switch, with_cable, is_full}
-use Rattle.fabric_map.proofs.Listings.{few_switches, switches_of-host, switches_of-switch}
-use Rattle.run_defs.specs.LineText.{map_text, vertices_text, vertex_numbered, vertex_at, cable_words, core_word}
-use Rattle.line_table.specs.Texts.{turn_text, host_name}
-use Rattle.map_canon.specs.Declaring.{declared, unless, host_placed, mark_word, says, end_word, cable_between, vertex_named}
+use Rattle.fabric_map.specs.Growing.{IsFabricMap, empty_map, with_host, with_switch, with_cable, is_full}
+use Rattle.fabric_map.proofs.Listings.{switches_of-host, switches_of-switch}
+use Rattle.line_table.specs.declared.kind.MapLineKind.TheVariants.{Host as HostLine, Switch as SwitchLine}
+use Rattle.line_table.specs.Form.{MapPlace, Word, HostAt, VertexAt}
+use Rattle.line_table.specs.Fits.{IsOf}
+use Rattle.line_table.specs.Matching.{is_among}
+use Rattle.run_defs.specs.LineText.{MapLine, map_text, map_lines, map_line_text, vertex_lines, vertex_numbered, cable_line, end_line, core_word}
+use Rattle.map_canon.specs.Declaring.{unless, placed, cable_between, vertex_in}
 use Rattle.map_canon.specs.Reading.{map_from}
 use Rattle.map_canon.specs.Printing.{IsOfFabric, AreOfFabric, IsReadBack}
-use Rattle.map_canon.proofs.Lines.{printed-declares, printed-ends}
-use Rattle.map_canon.proofs.Words.{AreNumbered, IsVertexWord, vertex-word, u32-read, switch-plain}
-use Rattle.line_table.proofs.Filled.{turn-read}
-use Rattle.line_table.proofs.Plain.{turn-plain}
+use Rattle.map_canon.proofs.Lines.{IsLine, placed_all, printed-says, lines-back}
+use Rattle.map_canon.proofs.Words.{AreNumbered, number-most, found}
 use Rattle.map_canon.proofs.Free.{cabled, cable-taken}
 
 -- vertices with their marks alone
@@ -109,144 +105,111 @@ room : (n : ℕ) → n < 4294967295 → is_full n ≡ false
 room n l = grind (arith, nat_tests)
 
 -- a host's line
-host-declared : (f : Network) (done : List MapVertex) (marks : List Bool) (h : ℕ) → IsFabric f → AreNamed f → h < length f.hosts → AllByRecursion (λ g. g ≢ h) (hosts_of done) → length done < 4294967295
-    → declared f (uncabled done marks) (codes "host" ∷ host_name f h ∷ []) ≡ Ok (uncabled (done ++ Host h ∷ []) (marks ++ true ∷ []))
-host-declared f done marks h is good there new few =
-    let test : nat_lt h (length f.hosts) ≡ true = grind (arith, nat_tests) in
-    let two = name-names f (FabricHost h) is.names_apart good test in
+host-placed : (done : List MapVertex) (marks : List Bool) (h : ℕ) → AllByRecursion (λ g. g ≢ h) (hosts_of done) → length done < 4294967295
+    → placed (uncabled done marks) HostLine (Some (HostAt h ∷ [])) ≡ Ok (uncabled (done ++ Host h ∷ []) (marks ++ true ∷ []))
+host-placed done marks h new few =
     let taken = new-host done h new in
     let full = room (length done) few in
-    (λ i. if two.0 i then host_placed (uncabled done marks) (two.1 i) else Err BadWord)
-    ∙ (λ i. unless (if taken i then Some HostTaken else if full i then Some Full else None) (with_host (uncabled done marks) h))
-
-host-plain : (f : Network) (h : ℕ) → IsFabric f → AreNamed f → h < length f.hosts → is_plain (host_name f h) ≡ true
-host-plain f h is good there =
-    let test : nat_lt h (length f.hosts) ≡ true = grind (arith, nat_tests) in
-    name-plain (host_name f h) (name-names f (FabricHost h) is.names_apart good test).0
+    λ i. unless (if taken i then Some HostTaken else if full i then Some Full else None) (with_host (uncabled done marks) h)
 
 -- a switch's line
-mark-read : (b : Bool) → mark_word (core_word b) ≡ Ok b
+mark-read : (b : Bool) → bytes_eq (core_word b) (core_word true) ≡ b
 mark-read true = refl
 mark-read false = refl
 
-mark-plain : (b : Bool) → is_plain (core_word b) ≡ true
-mark-plain true = refl
-mark-plain false = refl
-
-switch-declared : (f : Network) (done : List MapVertex) (marks : List Bool) (s : ℕ) (b : Bool) → s ≡ length (switches_of done) → length done < 4294967295
-    → declared f (uncabled done marks) (codes "switch" ∷ (codes "#" ++ decimal s) ∷ core_word b ∷ []) ≡ Ok (uncabled (done ++ Switch s ∷ []) (marks ++ b ∷ []))
-switch-declared f done marks s b next few =
-    let low = few_switches done in
-    let small : s < 2 ^ 32 = omega arith in
-    let read = u32-read s small in
+switch-placed : (done : List MapVertex) (marks : List Bool) (s : ℕ) (b : Bool) → s ≡ length (switches_of done) → length done < 4294967295
+    → placed (uncabled done marks) SwitchLine (Some (VertexAt (Switch s) ∷ Word (core_word b) ∷ [])) ≡ Ok (uncabled (done ++ Switch s ∷ []) (marks ++ b ∷ []))
+switch-placed done marks s b next few =
     let same : nat_eq s (length (switches_of done)) ≡ true = (Decides-eqb s (length (switches_of done))).1 next in
     let full = room (length done) few in
-    (λ i. if says (read i) (length (switches_of done)) then and_then (mark-read b i) (λ core. unless (switch_refusal (uncabled done marks)) (with_switch (uncabled done marks) core)) else Err BadWord)
-    ∙ (λ i. if same i then unless (if full i then Some Full else None) (with_switch (uncabled done marks) b) else Err BadWord)
+    (λ i. if same i then unless (if full i then Some Full else None) (with_switch (uncabled done marks) (mark-read b i)) else Err BadWord)
     ∙ (λ i. Ok (uncabled (done ++ Switch (sym next i) ∷ []) (marks ++ b ∷ [])))
 
-vertices-back : (past k : ℕ) (f : Network) (done : List MapVertex) (marks : List Bool) (todo : List MapVertex) (more : List Bool) (rest : List ℕ) → IsFabric f → AreNamed f
-    → AllByRecursion (IsOfFabric f) todo → Apart (hosts_of (done ++ todo)) → AreNumbered (length (switches_of done)) todo → AreMarked todo more → length done + length todo < 2 ^ 32
-    → map_from past f (uncabled done marks) (lines_left (record { number = k; text = vertices_text f todo more ++ rest }))
-    ≡ map_from past f (uncabled (done ++ todo) (marks ++ more)) (lines_left (record { number = k + length todo; text = rest }))
-vertices-back past k f done marks [] [] rest is good there apart numbered marked few =
-    let plus : k ≡ k + 0 = omega arith in
-    λ i. map_from past f (uncabled (sym (append-nil done) i) (sym (append-nil marks) i)) (lines_left (record { number = plus i; text = rest }))
-vertices-back past k f done marks [] (b ∷ bs) rest is good there apart numbered marked few = absurd marked
-vertices-back past k f done marks (Host h ∷ todo) [] rest is good there apart numbered marked few = absurd marked
-vertices-back past k f done marks (Switch s ∷ todo) [] rest is good there apart numbered marked few = absurd marked
-vertices-back past k f done marks (Host h ∷ todo) (b ∷ more) rest is good there apart numbered marked few =
-    let behind = vertices_text f todo more in
-    let plus : (k + 1) + length todo ≡ k + length (Host h ∷ todo) = omega arith in
+vertices-placed : (done : List MapVertex) (marks : List Bool) (todo : List MapVertex) (more : List Bool) (ls : List MapLine)
+    → Apart (hosts_of (done ++ todo)) → AreNumbered (length (switches_of done)) todo → AreMarked todo more → length done + length todo < 2 ^ 32
+    → placed_all (uncabled done marks) (vertex_lines todo more ++ ls) ≡ placed_all (uncabled (done ++ todo) (marks ++ more)) ls
+vertices-placed done marks [] [] ls apart numbered marked few = λ i. placed_all (uncabled (sym (append-nil done) i) (sym (append-nil marks) i)) ls
+vertices-placed done marks [] (b ∷ bs) ls apart numbered marked few = absurd marked
+vertices-placed done marks (Host h ∷ todo) [] ls apart numbered marked few = absurd marked
+vertices-placed done marks (Switch s ∷ todo) [] ls apart numbered marked few = absurd marked
+vertices-placed done marks (Host h ∷ todo) (b ∷ more) ls apart numbered marked few =
     let first : length done < 4294967295 = omega arith in
     let shorter : length (done ++ Host h ∷ []) + length todo < 2 ^ 32 = omega (arith, length-append done (Host h ∷ [])) in
     let new = apart-before (hosts_of done) (hosts_of todo) h (subst Apart (hosts-append done (Host h ∷ todo)) apart) in
-    let step = host-declared f done marks h is good there.0 new first ∙ (λ i. Ok (uncabled (done ++ Host h ∷ []) (marks ++ sym marked.0 i ∷ []))) in
-    ap (λ t. map_from past f (uncabled done marks) (lines_left (record { number = k; text = t }))) (append_assoc (line_text (codes "host" ∷ host_name f h ∷ [])) behind rest)
-    ∙ printed-declares past k f (uncabled done marks) (uncabled (done ++ Host h ∷ []) (marks ++ b ∷ [])) (codes "host") (host_name f h ∷ []) (behind ++ rest) (refl, (host-plain f h is good there.0, tt)) refl refl step
-    ∙ vertices-back past (k + 1) f (done ++ Host h ∷ []) (marks ++ b ∷ []) todo more rest is good there.1 (subst (λ l. Apart (hosts_of l)) (sym (append_assoc done (Host h ∷ []) todo)) apart)
+    let step = host-placed done marks h new first ∙ (λ i. Ok (uncabled (done ++ Host h ∷ []) (marks ++ sym marked.0 i ∷ []))) in
+    (λ i. and_then (step i) (λ m. placed_all m (vertex_lines todo more ++ ls)))
+    ∙ vertices-placed (done ++ Host h ∷ []) (marks ++ b ∷ []) todo more ls (subst (λ l. Apart (hosts_of l)) (sym (append_assoc done (Host h ∷ []) todo)) apart)
     (subst (λ l. AreNumbered (length l) todo) (sym (switches_of-host done h)) numbered) marked.1 shorter
-    ∙ (λ i. map_from past f (uncabled (append_assoc done (Host h ∷ []) todo i) (append_assoc marks (b ∷ []) more i)) (lines_left (record { number = plus i; text = rest })))
-vertices-back past k f done marks (Switch s ∷ todo) (b ∷ more) rest is good there apart numbered marked few =
-    let behind = vertices_text f todo more in
-    let words = (codes "#" ++ decimal s) ∷ core_word b ∷ [] in
-    let plus : (k + 1) + length todo ≡ k + length (Switch s ∷ todo) = omega arith in
+    ∙ (λ i. placed_all (uncabled (append_assoc done (Host h ∷ []) todo i) (append_assoc marks (b ∷ []) more i)) ls)
+vertices-placed done marks (Switch s ∷ todo) (b ∷ more) ls apart numbered marked few =
     let first : length done < 4294967295 = omega arith in
-    let own = numbered.0 in
     let shorter : length (done ++ Switch s ∷ []) + length todo < 2 ^ 32 = omega (arith, length-append done (Switch s ∷ [])) in
     let count : length (switches_of done) + 1 ≡ length (switches_of (done ++ Switch s ∷ [])) = sym (ap length (switches_of-switch done s) ∙ length-append (switches_of done) (s ∷ [])) in
-    ap (λ t. map_from past f (uncabled done marks) (lines_left (record { number = k; text = t }))) (append_assoc (line_text (codes "switch" ∷ words)) behind rest)
-    ∙ printed-declares past k f (uncabled done marks) (uncabled (done ++ Switch s ∷ []) (marks ++ b ∷ [])) (codes "switch") words (behind ++ rest) (refl, (switch-plain s, (mark-plain b, tt))) refl refl
-    (switch-declared f done marks s b own first)
-    ∙ vertices-back past (k + 1) f (done ++ Switch s ∷ []) (marks ++ b ∷ []) todo more rest is good there.1 (subst (λ l. Apart (hosts_of l)) (sym (append_assoc done (Switch s ∷ []) todo)) apart)
+    (λ i. and_then (switch-placed done marks s b numbered.0 first i) (λ m. placed_all m (vertex_lines todo more ++ ls)))
+    ∙ vertices-placed (done ++ Switch s ∷ []) (marks ++ b ∷ []) todo more ls (subst (λ l. Apart (hosts_of l)) (sym (append_assoc done (Switch s ∷ []) todo)) apart)
     (subst (λ n. AreNumbered n todo) count numbered.1) marked shorter
-    ∙ (λ i. map_from past f (uncabled (append_assoc done (Switch s ∷ []) todo i) (append_assoc marks (b ∷ []) more i)) (lines_left (record { number = plus i; text = rest })))
-
--- what the words of an end of a map say, whatever cables it has
-record IsEnd (f : Network) (m : NetMap) (d : MapPort) : Type 0 where
-  pub word : IsVertexWord f m d.v (vertex_numbered f m d.v)
-  pub turn : IsTurn d.p
+    ∙ (λ i. placed_all (uncabled (append_assoc done (Switch s ∷ []) todo i) (append_assoc marks (b ∷ []) more i)) ls)
 
 pub there-at : (vs : List MapVertex) (v : ℕ) → v < length vs → (x : MapVertex) × (slice_get vs v ≡ Some x)
 there-at [] v l = absurd (omega arith)
 there-at (x ∷ vs) zero l = (x, refl)
 there-at (x ∷ vs) (suc v) l = there-at vs v (omega arith)
 
-is-end : (f : Network) (m : NetMap) (d : MapPort) → IsFabric f → AreNamed f → AreOfFabric f m → IsFabricMap m → d.v < length m.vertices → IsTurn d.p → IsEnd f m d
-is-end f m d is good of r low turn =
-    let at = there-at m.vertices d.v low in
-    let own : IsOfFabric f at.0 = all-nth (IsOfFabric f) m.vertices d.v at.0 of at.1 in
-    record {
-      word = subst (IsVertexWord f m d.v) (sym (ap (vertex_at f) at.1)) (vertex-word f m d.v at.0 is good own r.is_map.hosts_once (map-numbered m r.is_map) r.few_vertices at.1);
-      turn = turn;
-    }
+-- a cable's line, whatever cables there are
+end-found : (m : NetMap) (cs : List MapCable) (v : ℕ) → IsFabricMap m → v < length m.vertices → vertex_in (cabled m cs) (vertex_numbered m v) ≡ Some v
+end-found m cs v r low =
+    let at = there-at m.vertices v low in
+    ap (λ o. vertex_in (cabled m cs) (unwrap_or o (Switch 0))) at.1 ∙ found (cabled m cs) v at.0 r.is_map.hosts_once (map-numbered m r.is_map) at.1
 
--- a cable's line
-end-read : (f : Network) (m : NetMap) (d : MapPort) → IsEnd f m d → end_word (vertex_numbered f m d.v) (turn_text d.p) ≡ Ok d.p
-end-read f m d e = λ i. if e.word.form i then as_kind (turn-read d.p e.turn i) else Err BadWord
+cables-placed : (m : NetMap) (done todo : List MapCable) → IsFabricMap m → m.cables ≡ done ++ todo → AllByRecursion (λ d. d.v < length m.vertices) (map_ends todo)
+    → placed_all (cabled m done) (map (cable_line m) todo) ≡ Ok (cabled m (done ++ todo))
+cables-placed m done [] r e low = λ i. Ok (cabled m (sym (append-nil done) i))
+cables-placed m done (c ∷ todo) r e low =
+    (λ i. and_then (cable_between (cabled m done) (end-found m done c.v r low.0 i) c.p (end-found m done c.w r low.1.0 i) c.q) (λ k. placed_all k (map (cable_line m) todo)))
+    ∙ (λ i. and_then (unless (cable-taken m done todo c r e i) (with_cable (cabled m done) c)) (λ k. placed_all k (map (cable_line m) todo)))
+    ∙ cables-placed m (done ++ c ∷ []) todo r (e ∙ sym (append_assoc done (c ∷ []) todo)) low.1.1
+    ∙ (λ i. Ok (cabled m (append_assoc done (c ∷ []) todo i)))
 
-same-vertices : (f : Network) (m : NetMap) (cs : List MapCable) (w : List ℕ) → vertex_named f (cabled m cs) w ≡ vertex_named f m w
-same-vertices f m cs [] = refl
-same-vertices f m cs (b ∷ bs) = refl
+-- the lines have the values of their rows
+vertices-fit : (f : Network) (vs : List MapVertex) (bs : List Bool) (k : ℕ) → AllByRecursion (IsOfFabric f) vs → AreNumbered k vs → k + length vs < 2 ^ 32 → AllByRecursion (IsLine f) (vertex_lines vs bs)
+vertices-fit f [] bs k of numbered few = tt
+vertices-fit f (Host h ∷ vs) [] k of numbered few = tt
+vertices-fit f (Switch s ∷ vs) [] k of numbered few = tt
+vertices-fit f (Host h ∷ vs) (b ∷ bs) k of numbered few =
+    let low : h < length f.hosts = of.0 in
+    let there : nat_lt h (length f.hosts) ≡ true = grind (arith, nat_tests) in
+    (((λ other. cc), (there, tt)), vertices-fit f vs bs k of.1 numbered (omega arith))
+vertices-fit f (Switch s ∷ vs) (b ∷ bs) k of numbered few =
+    let own = numbered.0 in
+    (((λ other. cc), (omega arith, (mark b, tt))), vertices-fit f vs bs (k + 1) of.1 numbered.1 (omega arith))
+  where
+    mark : (b : Bool) → is_among (codes "core" ∷ codes "outside" ∷ []) (core_word b) ≡ true
+    mark true = refl
+    mark false = refl
 
-cable-declared : (f : Network) (m : NetMap) (done : List MapCable) (c : MapCable) → IsEnd f m (first_end c) → IsEnd f m (second_end c) → cable_refusal (cabled m done) c ≡ None
-    → declared f (cabled m done) (cable_words f m c) ≡ Ok (cabled m (done ++ c ∷ []))
-cable-declared f m done c a b free =
-    let v = vertex_numbered f m c.v in
-    let w = vertex_numbered f m c.w in
-    (λ i. and_then (end-read f m (first_end c) a i) (λ p. and_then (end-read f m (second_end c) b i) (λ q. cable_between (cabled m done) (vertex_named f (cabled m done) v) p (vertex_named f (cabled m done) w) q)))
-    ∙ (λ i. cable_between (cabled m done) ((same-vertices f m done v ∙ a.word.named) i) c.p ((same-vertices f m done w ∙ b.word.named) i) c.q)
-    ∙ (λ i. unless (free i) (with_cable (cabled m done) c))
+place-fits : (f : Network) (m : NetMap) (v : ℕ) → AreOfFabric f m → IsFabricMap m → IsOf f MapPlace (VertexAt (vertex_numbered m v))
+place-fits f m v of r = by (slice_get m.vertices v) refl
+  where
+    by : (o : Option MapVertex) → slice_get m.vertices v ≡ o → IsOf f MapPlace (VertexAt (unwrap_or o (Switch 0)))
+    by None e = omega arith
+    by (Some (Host h)) e = let low : h < length f.hosts = all-nth (IsOfFabric f) m.vertices v (Host h) of e in grind (arith, nat_tests)
+    by (Some (Switch s)) e = let most = number-most m.vertices 0 v s (map-numbered m r.is_map) e in let few = r.few_vertices in omega arith
 
-cables-back : (past k : ℕ) (f : Network) (m : NetMap) (done todo : List MapCable) (rest : List ℕ) → IsFabric f → AreNamed f → AreOfFabric f m → IsFabricMap m → m.cables ≡ done ++ todo
-    → AllByRecursion (λ d. d.v < length m.vertices) (map_ends todo) → AllByRecursion (λ d. IsTurn d.p) (map_ends todo)
-    → map_from past f (cabled m done) (lines_left (record { number = k; text = flat_map (λ c. line_text (cable_words f m c)) todo ++ rest }))
-    ≡ map_from past f (cabled m (done ++ todo)) (lines_left (record { number = k + length todo; text = rest }))
-cables-back past k f m done [] rest is good of r e low turns =
-    let plus : k ≡ k + 0 = omega arith in
-    λ i. map_from past f (cabled m (sym (append-nil done) i)) (lines_left (record { number = plus i; text = rest }))
-cables-back past k f m done (c ∷ todo) rest is good of r e low turns =
-    let behind = flat_map (λ c. line_text (cable_words f m c)) todo in
-    let plus : (k + 1) + length todo ≡ k + length (c ∷ todo) = omega arith in
-    let a = is-end f m (first_end c) is good of r low.0 turns.0 in
-    let b = is-end f m (second_end c) is good of r low.1.0 turns.1.0 in
-    ap (λ t. map_from past f (cabled m done) (lines_left (record { number = k; text = t }))) (append_assoc (line_text (cable_words f m c)) behind rest)
-    ∙ printed-declares past k f (cabled m done) (cabled m (done ++ c ∷ [])) (codes "cable") (vertex_numbered f m c.v ∷ turn_text c.p ∷ vertex_numbered f m c.w ∷ turn_text c.q ∷ []) (behind ++ rest)
-    (refl, (a.word.plain, (turn-plain c.p, (b.word.plain, (turn-plain c.q, tt))))) refl refl
-    (cable-declared f m done c a b (cable-taken m done todo c r e))
-    ∙ cables-back past (k + 1) f m (done ++ c ∷ []) todo rest is good of r (e ∙ sym (append_assoc done (c ∷ []) todo)) low.1.1 turns.1.1
-    ∙ (λ i. map_from past f (cabled m (append_assoc done (c ∷ []) todo i)) (lines_left (record { number = plus i; text = rest })))
+cables-fit : (f : Network) (m : NetMap) (cs : List MapCable) → AreOfFabric f m → IsFabricMap m → AllByRecursion (λ d. IsTurn d.p) (map_ends cs) → AllByRecursion (IsLine f) (map (cable_line m) cs)
+cables-fit f m [] of r turns = tt
+cables-fit f m (c ∷ cs) of r turns =
+    (((λ other. cc), (place-fits f m c.v of r, (turns.0, (place-fits f m c.w of r, (turns.1.0, tt))))), cables-fit f m cs of r turns.1.1)
 
 -- the text of a map is read as that map
 pub map-read-back : (f : Network) (m : NetMap) → IsFabricMap m → AreOfFabric f m → IsReadBack f m (map_text f m)
 map-read-back f m r of is good =
     let past = line_count (map_text f m) + 1 in
-    let cables = flat_map (λ c. line_text (cable_words f m c)) m.cables in
-    let last = line_text (codes "endmap" ∷ []) in
-    let k = 1 + length m.vertices in
+    let k = 1 + length (map_lines m) in
+    let numbered = map-numbered m r.is_map in
+    let few : 0 + length m.vertices < 2 ^ 32 = let l = r.few_vertices in omega arith in
     let marked = are-marked m.vertices m.core r.is_map.one_mark_each r.is_map.hosts_marked in
-    ap (λ t. map_from past f empty_map (lines_left (record { number = 1; text = t }))) (append_assoc (vertices_text f m.vertices m.core) cables last)
-    ∙ vertices-back past 1 f [] [] m.vertices m.core (cables ++ last) is good of r.is_map.hosts_once (map-numbered m r.is_map) marked (let l = r.few_vertices in omega arith)
-    ∙ cables-back past k f m [] m.cables last is good of r refl r.is_map.cabled_vertices r.is_map.ports_in_range
-    ∙ ap (λ t. map_from past f m (lines_left (record { number = k + length m.cables; text = t }))) (sym (append-nil last))
-    ∙ printed-ends past (k + length m.cables) f m (codes "endmap") [] [] (refl, tt) refl refl
+    let fit = all-join (IsLine f) (vertex_lines m.vertices m.core) (map (cable_line m) m.cables) (vertices-fit f m.vertices m.core 0 of numbered few) (cables-fit f m m.cables of r r.is_map.ports_in_range) in
+    let placed = vertices-placed [] [] m.vertices m.core (map (cable_line m) m.cables) r.is_map.hosts_once numbered marked few ∙ cables-placed m [] m.cables r refl r.is_map.cabled_vertices in
+    lines-back f is good past 1 empty_map m (map_lines m) (map_line_text f end_line) fit placed
+    ∙ ap (λ t. map_from past f m (lines_left (record { number = k; text = t }))) (sym (append-nil (map_line_text f end_line)))
+    ∙ printed-says past k f m (codes "endmap" ∷ []) [] (refl, tt) refl

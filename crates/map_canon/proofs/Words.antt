@@ -1,32 +1,15 @@
--- The words of a printed map, and what they are read as.
-use Rattle.std.proofs.Common.{◌≡◌, ◌≢◌, ◌<◌, ◌≤◌, ◌+◌, ◌-◌, ◌^◌, ℕ, zero, suc, List, [], ◌∷◌, ◌++◌, Bool, true, false, ◌||◌, length, nat_eq, nat_lt, Some, option_map, Ok, refl, ap, ◌∙◌, subst, arith, if◌then◌else◌}
-use Rattle.std.specs.Prelude.{position, slice_get, codes, decimal, bytes_eq}
+-- The vertex of a map that a line names is found.
+use Rattle.std.proofs.Common.{◌≡◌, ◌≢◌, ◌<◌, ◌≤◌, ◌+◌, ℕ, zero, suc, List, [], ◌∷◌, Bool, true, false, length, nat_eq, Some, option_map, refl, ap, ◌∙◌, subst, arith, if◌then◌else◌}
+use Rattle.std.specs.Prelude.{position, slice_get}
 use Rattle.std.specs.List.{AllByRecursion}
 use Rattle.std.proofs.lemmas.Bool.Decides.{nat_tests, Decides-eqb}
-use Rattle.net_defs.specs.declared.vertex.Vertex.TheVariants.{Host as FabricHost}
-use Rattle.net_defs.specs.Network.{Network, IsFabric, Apart}
-use Rattle.net_defs.specs.Building.{vertex_named as fabric_vertex, name_of}
+use Rattle.net_defs.specs.Network.{Apart}
 use Rattle.map_defs.specs.declared.vertex.MapVertex.{MapVertex}
 use Rattle.map_defs.specs.declared.vertex.MapVertex.TheVariants.{Host, Switch}
 use Rattle.map_defs.specs.NetMap.{NetMap, hosts_of}
 use Rattle.map_defs.specs.Routing.{is_host_named}
-use Rattle.fab_text.specs.Word.{name_test, u32_of}
-use Rattle.fabric_file.specs.Reading.{AreNamed}
 use Rattle.fabric_file.proofs.Cutting.{position-cons}
-use Rattle.fabric_file.proofs.Names.{name-names}
-use Rattle.fabric_file.specs.Plain.{is_plain}
-use Rattle.fabric_file.proofs.PlainWords.{digits-plain, name-no_sign, name-plain, number-read}
-use Rattle.line_table.specs.Texts.{vertex_text}
-use Rattle.map_canon.specs.Declaring.{is_switch_numbered, vertex_named, host_vertex, switch_vertex, vertex_test, switch_test, is_number}
-use Rattle.map_canon.specs.Printing.{IsOfFabric}
-use Rattle.map_canon.specs.Reading.{is_end}
-
--- a name doesn't begin with `#`
-name-named : (f : Network) (m : NetMap) (w : List ℕ) → name_test w ≡ true → vertex_named f m w ≡ host_vertex m (fabric_vertex f w)
-name-named f m [] e = refl
-name-named f m (b ∷ bs) e =
-    let t = name-no_sign b bs e in
-    λ i. if t i then switch_vertex m (u32_of bs) else host_vertex m (fabric_vertex f (b ∷ bs))
+use Rattle.map_canon.specs.Declaring.{is_switch_numbered, vertex_in}
 
 -- what holds of each address holds of a host's
 host-holds : (P : ℕ → Type 0) (vs : List MapVertex) (v h : ℕ) → AllByRecursion P (hosts_of vs) → slice_get vs v ≡ Some (Host h) → P h
@@ -87,50 +70,7 @@ found-switch (Switch t ∷ vs) k (suc v) s all e =
     let other : nat_eq t s ≡ false = grind (arith, nat_tests) in
     found-next (is_switch_numbered s) (Switch t) vs v other (found-switch vs (k + 1) v s all.1 e)
 
--- A word that names a vertex.
-pub record IsVertexWord (f : Network) (m : NetMap) (v : ℕ) (w : List ℕ) : Type 0 where
-  pub plain : is_plain w ≡ true
-  pub form : vertex_test w ≡ true
-  pub named : vertex_named f m w ≡ Some v
-
-or-right : (a b : Bool) → b ≡ true → (a || b) ≡ true
-or-right true b e = refl
-or-right false b e = e
-
-pub host-word : (f : Network) (m : NetMap) (v h : ℕ) → IsFabric f → AreNamed f → h < length f.hosts → Apart (hosts_of m.vertices) → slice_get m.vertices v ≡ Some (Host h) → IsVertexWord f m v (vertex_text f (Host h))
-host-word f m v h is good there apart e =
-    let name = name_of f (FabricHost h) in
-    let test : nat_lt h (length f.hosts) ≡ true = grind (arith, nat_tests) in
-    let two = name-names f (FabricHost h) is.names_apart good test in
-    record {
-      plain = name-plain name two.0;
-      form = (λ i. two.0 i || switch_test name);
-      named = name-named f m name two.0 ∙ ap (host_vertex m) two.1 ∙ found-host m.vertices v h apart e;
-    }
-
-pub u32-read : (s : ℕ) → s < 2 ^ 32 → u32_of (decimal s) ≡ Ok s
-u32-read s h = number-read (2 ^ 32 - 1) s (omega arith) (omega arith)
-
-pub switch-plain : (s : ℕ) → is_plain (codes "#" ++ decimal s) ≡ true
-switch-plain s = digits-plain s
-
-pub switch-word : (f : Network) (m : NetMap) (v s : ℕ) → AreNumbered 0 m.vertices → length m.vertices < 2 ^ 32 → slice_get m.vertices v ≡ Some (Switch s) → IsVertexWord f m v (vertex_text f (Switch s))
-switch-word f m v s numbered few e =
-    let most = number-most m.vertices 0 v s numbered e in
-    let h : s < 2 ^ 32 = omega arith in
-    record {
-      plain = switch-plain s;
-      form = or-right (name_test (codes "#" ++ decimal s)) (switch_test (codes "#" ++ decimal s)) (ap is_number (u32-read s h));
-      named = ap (switch_vertex m) (u32-read s h) ∙ found-switch m.vertices 0 v s numbered e;
-    }
-
-pub vertex-word : (f : Network) (m : NetMap) (v : ℕ) (x : MapVertex) → IsFabric f → AreNamed f → IsOfFabric f x → Apart (hosts_of m.vertices) → AreNumbered 0 m.vertices → length m.vertices < 2 ^ 32 → slice_get m.vertices v ≡ Some x → IsVertexWord f m v (vertex_text f x)
-vertex-word f m v (Host h) is good there apart numbered few e = host-word f m v h is good there apart e
-vertex-word f m v (Switch s) is good there apart numbered few e = switch-word f m v s numbered few e
-
--- ---- the end of a map
-
--- a line is no `endmap` that begins with another word
-pub not-end : (w : List ℕ) (ws : List (List ℕ)) → bytes_eq w (codes "endmap") ≡ false → is_end (w ∷ ws) ≡ false
-not-end w [] e = e
-not-end w (v ∷ ws) e = refl
+-- the vertex that a line names is there
+pub found : (m : NetMap) (v : ℕ) (x : MapVertex) → Apart (hosts_of m.vertices) → AreNumbered 0 m.vertices → slice_get m.vertices v ≡ Some x → vertex_in m x ≡ Some v
+found m v (Host h) apart numbered e = found-host m.vertices v h apart e
+found m v (Switch s) apart numbered e = found-switch m.vertices 0 v s numbered e

@@ -1,10 +1,7 @@
 -- What a line of a map declares, by its words, or its first fault.
-use Rattle.std.specs.Prelude.{◌≡◌, ℕ, ℤ, Bool, true, false, ◌&&◌, ◌||◌, List, [], ◌∷◌, length, nat_eq, slice_get}
-use Rattle.std.specs.Prelude.{position, if◌then◌else◌, Option, Some, None, Result, Ok, Err, codes, bytes_eq}
-use Rattle.net_defs.specs.declared.vertex.Vertex.{Vertex}
-use Rattle.net_defs.specs.declared.vertex.Vertex.TheVariants.{Host, Switch}
+use Rattle.std.specs.Prelude.{◌≡◌, ℕ, ℤ, Bool, true, false, ◌&&◌, ◌||◌, List, [], ◌∷◌, length, drop, nat_eq, slice_get}
+use Rattle.std.specs.Prelude.{position, if◌then◌else◌, Option, Some, None, Result, Ok, Err, bytes_eq}
 use Rattle.net_defs.specs.Network.{Network}
-use Rattle.net_defs.specs.Building.{vertex_named as fabric_vertex}
 use Rattle.map_defs.specs.declared.vertex.MapVertex.{MapVertex}
 use Rattle.map_defs.specs.declared.vertex.MapVertex.TheVariants.{Host as MapHost, Switch as MapSwitch}
 use Rattle.map_defs.specs.declared.vertex.MapCable.{MapCable}
@@ -17,14 +14,20 @@ use Rattle.fab_text.specs.declared.fault.FaultKind.TheVariants.{BadWord, NameTak
 use Rattle.fab_text.specs.declared.fault.LineFault.{LineFault}
 use Rattle.fab_text.specs.declared.fault.LineFault.TheVariants.{Wrong, NoMemory}
 use Rattle.fab_text.specs.Word.{name_test, u32_of, turn_of}
-use Rattle.fab_text.specs.Line.{one_of, two_of, four_of}
 use Rattle.fab_text.specs.Fault.{as_kind, and_then}
-use Rattle.fabric_file.specs.Declaring.{where_there}
 use Rattle.fabric_map.specs.declared.fault.MapFault.{MapFault}
 use Rattle.fabric_map.specs.declared.fault.MapFault.TheVariants.{HostTaken, Full as IsFull, NoVertex as Unknown}
 use Rattle.fabric_map.specs.declared.fault.MapFault.TheVariants.{PortRange as NoPort, PortUsed as IsUsed}
 use Rattle.fabric_map.specs.declared.fault.MapFault.TheVariants.{NoMemory as NoMoreMemory}
 use Rattle.fabric_map.specs.Growing.{host_refusal, switch_refusal, cable_refusal, with_host, with_switch, with_cable}
+use Rattle.line_table.specs.declared.kind.MapLineKind.{MapLineKind}
+use Rattle.line_table.specs.declared.kind.MapLineKind.TheVariants.{Host as HostLine, Switch as SwitchLine}
+use Rattle.line_table.specs.declared.kind.MapLineKind.TheVariants.{Cable as CableLine}
+use Rattle.line_table.specs.Form.{WordKind, HostName, MapPlace, Turn, OneOf, Slot, Fixed, Of}
+use Rattle.line_table.specs.Form.{LineValue, Word, HostAt, TurnBy, VertexAt}
+use Rattle.line_table.specs.Matching.{is_among, matched}
+use Rattle.line_table.specs.Table.{map_form}
+use Rattle.run_defs.specs.LineText.{core_word}
 
 -- the kind of a map's refusal (running out of memory is none)
 abbrev pub refusal_kind : MapFault → FaultKind
@@ -49,11 +52,10 @@ is_switch_numbered s (MapSwitch t) = nat_eq t s
 abbrev pub vertex_of_switch : NetMap → ℕ → Option ℕ
 vertex_of_switch m s = position (is_switch_numbered s) m.vertices
 
--- the vertex of a host of the fabric
-abbrev pub host_vertex : NetMap → Option Vertex → Option ℕ
-host_vertex m None = None
-host_vertex m (Some (Host h)) = vertex_of_host m h
-host_vertex m (Some (Switch s)) = None
+-- the vertex of a map that a line names
+abbrev pub vertex_in : NetMap → MapVertex → Option ℕ
+vertex_in m (MapHost h) = vertex_of_host m h
+vertex_in m (MapSwitch s) = vertex_of_switch m s
 
 -- a word is a number, of any size
 abbrev pub is_number : Result ℕ NumFault → Bool
@@ -70,58 +72,22 @@ switch_test (b ∷ bs) = nat_eq b 35 && is_number (u32_of bs)
 abbrev pub vertex_test : List ℕ → Bool
 vertex_test w = name_test w || switch_test w
 
--- the vertex of the switch with the number that was read
-abbrev pub switch_vertex : NetMap → Result ℕ NumFault → Option ℕ
-switch_vertex m (Ok s) = vertex_of_switch m s
-switch_vertex m (Err e) = None
+-- what is wrong with a word: nothing where it has its form
+abbrev pub formed_where : Bool → Result (Unit {0}) FaultKind
+formed_where is = if is then Ok tt else Err BadWord
 
--- the vertex that a word names
-abbrev pub vertex_named : Network → NetMap → List ℕ → Option ℕ
-vertex_named f m [] = host_vertex m (fabric_vertex f [])
-vertex_named f m (b ∷ bs) = if nat_eq b 35 then switch_vertex m (u32_of bs)
-    else host_vertex m (fabric_vertex f (b ∷ bs))
+-- the same of a word of each kind that a map's rows have; whether the fabric has the name comes later
+abbrev pub word_formed : WordKind → List ℕ → Result (Unit {0}) FaultKind
+word_formed HostName w = formed_where (name_test w)
+word_formed MapPlace w = formed_where (vertex_test w)
+word_formed Turn w = and_then (as_kind (turn_of w)) (λ turn. Ok tt)
+word_formed (OneOf ws) w = formed_where (is_among ws w)
+word_formed k w = Ok tt
 
--- the number that was read is this one
-abbrev pub says : Result ℕ NumFault → ℕ → Bool
-says (Ok s) k = nat_eq s k
-says (Err e) k = false
-
--- `#K` with the number of the next switch
-abbrev pub is_next : NetMap → List ℕ → Bool
-is_next m [] = false
-is_next m (b ∷ bs) = nat_eq b 35 && says (u32_of bs) (length (switches_of m.vertices))
-
--- `core` or `outside`
-abbrev pub mark_word : List ℕ → Result Bool FaultKind
-mark_word w = if bytes_eq w (codes "core") then Ok true else if bytes_eq w (codes "outside") then Ok false
-    else Err BadWord
-
--- the form of `V P`, with the port that it says
-abbrev pub end_word : List ℕ → List ℕ → Result ℤ FaultKind
-end_word v p = if vertex_test v then as_kind (turn_of p) else Err BadWord
-
--- `host NAME`, where the fabric has such a host
-abbrev pub host_placed : NetMap → Option Vertex → Result NetMap FaultKind
-host_placed m None = Err NoVertex
-host_placed m (Some (Host h)) = unless (host_refusal m h) (with_host m h)
-host_placed m (Some (Switch s)) = Err NoVertex
-
--- the map with the host of this name, which must be one of the fabric
-abbrev pub host_declared : Network → NetMap → List ℕ → Result NetMap FaultKind
-host_declared f m name = if name_test name then host_placed m (fabric_vertex f name) else Err BadWord
-
--- what a line `host NAME` declares
-abbrev pub host_line : Network → NetMap → List (List ℕ) → Result NetMap FaultKind
-host_line f m args = where_there (one_of args) (host_declared f m)
-
--- `switch #K core` or `switch #K outside`, by the next number
-abbrev pub switch_declared : NetMap → List ℕ → List ℕ → Result NetMap FaultKind
-switch_declared m number mark = if is_next m number then and_then (mark_word mark) (λ core.
-    unless (switch_refusal m) (with_switch m core)) else Err BadWord
-
--- what a line `switch #K MARK` declares
-abbrev pub switch_line : NetMap → List (List ℕ) → Result NetMap FaultKind
-switch_line m args = where_there (two_of args) (λ w. switch_declared m w.0 w.1)
+-- the first fault of the forms of words, from left to right
+abbrev pub words_formed : List Slot → List (List ℕ) → Result (Unit {0}) FaultKind
+words_formed (Of k ∷ ss) (w ∷ ws) = and_then (word_formed k w) (λ formed. words_formed ss ws)
+words_formed ss ws = Ok tt
 
 -- a cable, if nothing refuses it
 abbrev pub cable_placed : NetMap → MapCable → Result NetMap FaultKind
@@ -133,27 +99,48 @@ cable_between m None p w q = Err NoVertex
 cable_between m (Some v) p None q = Err NoVertex
 cable_between m (Some v) p (Some w) q = cable_placed m (record { v = v; p = p; w = w; q = q })
 
--- `cable V P W Q`: the forms from left to right, and then the vertices and ports
-abbrev pub cable_declared : Network → NetMap → List ℕ → List ℕ → List ℕ → List ℕ → Result NetMap FaultKind
-cable_declared f m v p w q = and_then (end_word v p) (λ i.
-    and_then (end_word w q) (λ j. cable_between m (vertex_named f m v) i (vertex_named f m w) j))
+-- The map with what a line of these values declares. Without values the line names a host that the fabric doesn't have,
+-- or a switch whose number is too great to be one of the map. A switch must have the next number.
+abbrev pub placed : NetMap → MapLineKind → Option (List LineValue) → Result NetMap FaultKind
+placed m HostLine (Some (HostAt h ∷ [])) = unless (host_refusal m h) (with_host m h)
+placed m SwitchLine (Some (VertexAt (MapSwitch s) ∷ Word mark ∷ [])) =
+    if nat_eq s (length (switches_of m.vertices))
+    then unless (switch_refusal m) (with_switch m (bytes_eq mark (core_word true)))
+    else Err BadWord
+placed m SwitchLine _ = Err BadWord
+placed m CableLine (Some (VertexAt v ∷ TurnBy p ∷ VertexAt w ∷ TurnBy q ∷ [])) =
+    cable_between m (vertex_in m v) p (vertex_in m w) q
+placed m k _ = Err NoVertex
 
--- what a line `cable V P W Q` declares
-abbrev pub cable_line : Network → NetMap → List (List ℕ) → Result NetMap FaultKind
-cable_line f m args = where_there (four_of args) (λ w. cable_declared f m w.0.0 w.0.1 w.1.0 w.1.1)
+-- the word that a row begins with
+abbrev pub first_word : List Slot → List ℕ
+first_word (Fixed w ∷ ss) = w
+first_word ss = []
 
--- what a line declares by its first word
-abbrev pub declared_as : Network → NetMap → List ℕ → List (List ℕ) → Result NetMap FaultKind
-declared_as f m first args =
-    if bytes_eq first (codes "host") then host_line f m args
-    else if bytes_eq first (codes "switch") then switch_line m args
-    else if bytes_eq first (codes "cable") then cable_line f m args
+-- the words after it
+abbrev pub args_of : MapLineKind → List Slot
+args_of k = drop 1 (map_form k)
+
+-- a line of a kind by its first word
+abbrev pub begins : MapLineKind → List ℕ → Bool
+begins k first = bytes_eq first (first_word (map_form k))
+
+-- What a line of a kind declares by the words after its first: their number comes first, then their forms, then what
+-- they name.
+abbrev pub row_declared : Network → NetMap → MapLineKind → List (List ℕ) → Result NetMap FaultKind
+row_declared f m k args =
+    if nat_eq (length (args_of k)) (length args)
+    then and_then (words_formed (args_of k) args) (λ formed. placed m k (matched f (args_of k) args))
     else Err BadWord
 
 -- The map that a line of these words leaves, or the line's first fault.
 abbrev pub declared : Network → NetMap → List (List ℕ) → Result NetMap FaultKind
 declared f m [] = Err BadWord
-declared f m (first ∷ args) = declared_as f m first args
+declared f m (first ∷ args) =
+    if begins HostLine first then row_declared f m HostLine args
+    else if begins SwitchLine first then row_declared f m SwitchLine args
+    else if begins CableLine first then row_declared f m CableLine args
+    else Err BadWord
 
 -- what a map's refusal of a line comes to
 abbrev pub refused_line : MapFault → LineFault

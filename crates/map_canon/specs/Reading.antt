@@ -1,20 +1,22 @@
 -- Which texts have a map, which map that is, and what the first fault of the others is.
-use Rattle.std.specs.Prelude.{◌≡◌, ℕ, ◌+◌, Bool, false, List, [], ◌∷◌, if◌then◌else◌, Result, Ok, Err, codes, bytes_eq}
-use Rattle.std.specs.Option.{option_map_or}
+use Rattle.std.specs.Prelude.{◌≡◌, ℕ, ◌+◌, Bool, false, ◌&&◌, List, [], ◌∷◌, length, nat_eq, if◌then◌else◌, Result, Ok}
+use Rattle.std.specs.Prelude.{Err}
 use Rattle.net_defs.specs.Network.{Network}
 use Rattle.map_defs.specs.NetMap.{NetMap}
 use Rattle.fab_text.specs.declared.fault.FaultKind.{FaultKind}
 use Rattle.fab_text.specs.declared.fault.FaultKind.TheVariants.{NoEnd, AfterEnd}
 use Rattle.fab_text.specs.declared.fault.TextFault.{TextFault}
 use Rattle.fab_text.specs.declared.fault.TextFault.TheVariants.{At, NoMemory}
-use Rattle.fab_text.specs.Line.{TextLine, lines_left, line_count, words_of, one_of}
+use Rattle.fab_text.specs.Line.{TextLine, lines_left, line_count, words_of}
 use Rattle.fab_text.specs.Fault.{FirstFault, at_line, and_then}
 use Rattle.fabric_map.specs.Growing.{empty_map}
-use Rattle.map_canon.specs.Declaring.{declared}
+use Rattle.line_table.specs.declared.kind.MapLineKind.TheVariants.{End as EndLine}
+use Rattle.map_canon.specs.Declaring.{begins, args_of, declared}
 
 -- the line `endmap`
 abbrev pub is_end : List (List ℕ) → Bool
-is_end ws = option_map_or (λ w. bytes_eq w (codes "endmap")) (one_of ws) false
+is_end [] = false
+is_end (first ∷ args) = begins EndLine first && nat_eq (length (args_of EndLine)) (length args)
 
 -- a map whose lines ended, where no line follows that says something
 abbrev pub ended : NetMap → List TextLine → Result NetMap FirstFault

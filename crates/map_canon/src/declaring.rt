@@ -1,19 +1,21 @@
 //! A line of a map: its words, and what they declare or their first fault.
 
-ghost use Rattle.std.specs.Prelude.{◌≡◌, ◌∷◌, IsErrOf, IsOk};
+ghost use Rattle.std.specs.Prelude.{◌≡◌, ◌∷◌, [], Some, IsErrOf, IsOk, codes, option_map};
 ghost use Rattle.fab_text.specs.Line.{words_of};
 ghost use Rattle.fab_text.specs.Fault.{LineLeaves};
-ghost use Rattle.map_canon.specs.Declaring.{declared, declared_as, host_line, host_declared, host_placed, switch_line};
-ghost use Rattle.map_canon.specs.Declaring.{switch_declared, cable_line, cable_declared, cable_between, end_word};
-ghost use Rattle.map_canon.specs.Declaring.{mark_word, switch_test, is_number, is_next, says, vertex_named};
-ghost use Rattle.map_canon.specs.Declaring.{switch_vertex, host_vertex, vertex_test};
+ghost use Rattle.line_table.specs.Form.{VertexAt, TurnBy, Word};
+ghost use Rattle.line_table.specs.Matching.{is_among, onto};
+ghost use Rattle.line_table.specs.Said.{host_said, vertex_said, number_said};
+ghost use Rattle.map_canon.specs.Declaring.{declared, row_declared, placed, vertex_in};
+ghost use Rattle.map_canon.specs.Declaring.{vertex_test, switch_test, is_number};
 ghost use Rattle.map_canon.specs.Reading.{is_end};
 
 use crate::growing::MapSoFar;
 use fab_text::{
     FaultKind, LineFault, NumFault, Words, is_keyword, is_name, read_turn, read_u32, words,
 };
-use fabric_map::MapCable;
+use fabric_map::{MapCable, MapVertex};
+use line_table::MapLineKind;
 use port_graph::{Fabric, Vertex};
 
 /// Whether a line is `endmap`.
@@ -22,19 +24,9 @@ pub(crate) fn is_end(line: &[u8]) -> bool
 {
     let mut args = words(line);
     match args.next_word() {
-        Some(first) => is_end_by(first, args),
+        Some(first) => is_keyword(first, b"endmap") && args.next_word().is_none(),
         None => false,
     }
-}
-
-// Whether a line is `endmap` that begins with this word. Only after that word is a second looked for.
-fn is_end_by(first: &[u8], mut args: Words) -> bool
-    ensures { result ≡ is_end (first.now ∷ words_of args.entry) }
-{
-    if !is_keyword(first, b"endmap") {
-        return false;
-    }
-    args.next_word().is_none()
 }
 
 /// Adds what a line declares. A line that has a fault takes no memory.
@@ -51,14 +43,14 @@ pub(crate) fn declare(map: &mut MapSoFar, f: &Fabric, line: &[u8]) -> Result<(),
 
 // Adds what a line declares that begins with this word.
 fn declare_as(map: &mut MapSoFar, f: &Fabric, first: &[u8], args: Words) -> Result<(), LineFault>
-    ensures reading { LineLeaves (declared_as f.now map.old first.now (words_of args.entry)) map.new result }
+    ensures reading { LineLeaves (declared f.now map.old (first.now ∷ words_of args.entry)) map.new result }
     ensures memory { IsErrOf result LineFault.NoMemory
-        → IsOk (declared_as f.now map.old first.now (words_of args.entry)) }
+        → IsOk (declared f.now map.old (first.now ∷ words_of args.entry)) }
 {
     if is_keyword(first, b"host") {
         declare_host(map, f, args)
     } else if is_keyword(first, b"switch") {
-        declare_switch(map, args)
+        declare_switch(map, f, args)
     } else if is_keyword(first, b"cable") {
         declare_cable(map, f, args)
     } else {
@@ -67,72 +59,89 @@ fn declare_as(map: &mut MapSoFar, f: &Fabric, first: &[u8], args: Words) -> Resu
 }
 
 // `host NAME`
-fn declare_host(map: &mut MapSoFar, f: &Fabric, args: Words) -> Result<(), LineFault>
-    ensures reading { LineLeaves (host_line f.now map.old (words_of args.entry)) map.new result }
-    ensures memory { IsErrOf result LineFault.NoMemory → IsOk (host_line f.now map.old (words_of args.entry)) }
+fn declare_host(map: &mut MapSoFar, f: &Fabric, mut args: Words) -> Result<(), LineFault>
+    ensures reading { LineLeaves (row_declared f.now map.old MapLineKind.Host (words_of args.entry)) map.new result }
+    ensures memory { IsErrOf result LineFault.NoMemory
+        → IsOk (row_declared f.now map.old MapLineKind.Host (words_of args.entry)) }
 {
-    match args.one() {
-        Some(name) => add_host(map, f, name),
-        None => Err(LineFault::Wrong(FaultKind::BadWord)),
-    }
+    let (Some(name), None) = (args.next_word(), args.next_word()) else {
+        return Err(LineFault::Wrong(FaultKind::BadWord));
+    };
+    add_host(map, f, name)
 }
 
 fn add_host(map: &mut MapSoFar, f: &Fabric, name: &[u8]) -> Result<(), LineFault>
-    ensures reading { LineLeaves (host_declared f.now map.old name.now) map.new result }
-    ensures memory { IsErrOf result LineFault.NoMemory → IsOk (host_declared f.now map.old name.now) }
+    ensures reading { LineLeaves (row_declared f.now map.old MapLineKind.Host (name.now ∷ [])) map.new result }
+    ensures memory { IsErrOf result LineFault.NoMemory
+        → IsOk (row_declared f.now map.old MapLineKind.Host (name.now ∷ [])) }
 {
-    if is_name(name) {
-        place_host(map, f.find(name))
-    } else {
-        Err(LineFault::Wrong(FaultKind::BadWord))
+    if !is_name(name) {
+        return Err(LineFault::Wrong(FaultKind::BadWord));
     }
-}
-
-// Adds a host of the fabric, if it is one.
-fn place_host(map: &mut MapSoFar, v: Option<Vertex>) -> Result<(), LineFault>
-    ensures reading { LineLeaves (host_placed map.old v) map.new result }
-    ensures memory { IsErrOf result LineFault.NoMemory → IsOk (host_placed map.old v) }
-{
-    match v {
-        Some(Vertex::Host(h)) => map.add_host(h),
-        Some(Vertex::Switch(_)) => Err(LineFault::Wrong(FaultKind::NoVertex)),
+    match host_said(f, name) {
+        Some(h) => map.add_host(h),
         None => Err(LineFault::Wrong(FaultKind::NoVertex)),
     }
 }
 
 // `switch #K core` or `switch #K outside`
-fn declare_switch(map: &mut MapSoFar, args: Words) -> Result<(), LineFault>
-    ensures reading { LineLeaves (switch_line map.old (words_of args.entry)) map.new result }
-    ensures memory { IsErrOf result LineFault.NoMemory → IsOk (switch_line map.old (words_of args.entry)) }
+fn declare_switch(map: &mut MapSoFar, f: &Fabric, mut args: Words) -> Result<(), LineFault>
+    ensures reading { LineLeaves (row_declared f.now map.old MapLineKind.Switch (words_of args.entry)) map.new result }
+    ensures memory { IsErrOf result LineFault.NoMemory
+        → IsOk (row_declared f.now map.old MapLineKind.Switch (words_of args.entry)) }
 {
-    match args.two() {
-        Some((number, mark)) => add_switch(map, number, mark),
+    let (Some(number), Some(mark)) = (args.next_word(), args.next_word()) else {
+        return Err(LineFault::Wrong(FaultKind::BadWord));
+    };
+    if args.next_word().is_some() {
+        return Err(LineFault::Wrong(FaultKind::BadWord));
+    }
+    add_switch(map, f, number, mark)
+}
+
+fn add_switch(map: &mut MapSoFar, f: &Fabric, number: &[u8], mark: &[u8]) -> Result<(), LineFault>
+    ensures reading { LineLeaves (row_declared f.now map.old MapLineKind.Switch (number.now ∷ mark.now ∷ []))
+        map.new result }
+    ensures memory { IsErrOf result LineFault.NoMemory
+        → IsOk (row_declared f.now map.old MapLineKind.Switch (number.now ∷ mark.now ∷ [])) }
+{
+    if !is_vertex(number) || !is_mark(mark) {
+        return Err(LineFault::Wrong(FaultKind::BadWord));
+    }
+    match vertex_said(f, number) {
+        Some(MapVertex::Switch(s)) => add_numbered(map, s, mark),
+        Some(MapVertex::Host(_)) => Err(LineFault::Wrong(FaultKind::BadWord)),
         None => Err(LineFault::Wrong(FaultKind::BadWord)),
     }
 }
 
-fn add_switch(map: &mut MapSoFar, number: &[u8], mark: &[u8]) -> Result<(), LineFault>
-    ensures reading { LineLeaves (switch_declared map.old number.now mark.now) map.new result }
-    ensures memory { IsErrOf result LineFault.NoMemory → IsOk (switch_declared map.old number.now mark.now) }
+// Adds a switch with a mark, if its number is the next.
+fn add_numbered(map: &mut MapSoFar, s: u32, mark: &[u8]) -> Result<(), LineFault>
+    ensures reading { LineLeaves (placed map.old MapLineKind.Switch
+        (Some (VertexAt (MapVertex.Switch s) ∷ Word mark.now ∷ []))) map.new result }
+    ensures memory { IsErrOf result LineFault.NoMemory
+        → IsOk (placed map.old MapLineKind.Switch (Some (VertexAt (MapVertex.Switch s) ∷ Word mark.now ∷ []))) }
 {
-    if !is_next(map, number) {
-        return Err(LineFault::Wrong(FaultKind::BadWord));
-    }
-    match read_mark(mark) {
-        Ok(core) => map.add_switch(core),
-        Err(kind) => Err(LineFault::Wrong(kind)),
+    if s as usize == map.switches() {
+        map.add_switch(is_keyword(mark, b"core"))
+    } else {
+        Err(LineFault::Wrong(FaultKind::BadWord))
     }
 }
 
 // `cable V P W Q`
-fn declare_cable(map: &mut MapSoFar, f: &Fabric, args: Words) -> Result<(), LineFault>
-    ensures reading { LineLeaves (cable_line f.now map.old (words_of args.entry)) map.new result }
-    ensures memory { IsErrOf result LineFault.NoMemory → IsOk (cable_line f.now map.old (words_of args.entry)) }
+fn declare_cable(map: &mut MapSoFar, f: &Fabric, mut args: Words) -> Result<(), LineFault>
+    ensures reading { LineLeaves (row_declared f.now map.old MapLineKind.Cable (words_of args.entry)) map.new result }
+    ensures memory { IsErrOf result LineFault.NoMemory
+        → IsOk (row_declared f.now map.old MapLineKind.Cable (words_of args.entry)) }
 {
-    match args.four() {
-        Some(((v, p), (w, q))) => add_cable(map, f, v, p, w, q),
-        None => Err(LineFault::Wrong(FaultKind::BadWord)),
-    }
+    let (Some(v), Some(p)) = (args.next_word(), args.next_word()) else {
+        return Err(LineFault::Wrong(FaultKind::BadWord));
+    };
+    let (Some(w), Some(q), None) = (args.next_word(), args.next_word(), args.next_word()) else {
+        return Err(LineFault::Wrong(FaultKind::BadWord));
+    };
+    add_cable(map, f, v, p, w, q)
 }
 
 fn add_cable(
@@ -143,72 +152,91 @@ fn add_cable(
     w: &[u8],
     q: &[u8],
 ) -> Result<(), LineFault>
-    ensures reading { LineLeaves (cable_declared f.now map.old v.now p.now w.now q.now) map.new result }
-    ensures memory { IsErrOf result LineFault.NoMemory → IsOk (cable_declared f.now map.old v.now p.now w.now q.now) }
+    ensures reading { LineLeaves (row_declared f.now map.old MapLineKind.Cable
+        (v.now ∷ p.now ∷ w.now ∷ q.now ∷ [])) map.new result }
+    ensures memory { IsErrOf result LineFault.NoMemory
+        → IsOk (row_declared f.now map.old MapLineKind.Cable (v.now ∷ p.now ∷ w.now ∷ q.now ∷ [])) }
 {
-    match (read_end(v, p), read_end(w, q)) {
-        (Err(kind), _) => Err(LineFault::Wrong(kind)),
-        (_, Err(kind)) => Err(LineFault::Wrong(kind)),
-        (Ok(p), Ok(q)) => {
-            let v = vertex_named(map, f, v);
-            let w = vertex_named(map, f, w);
-            join(map, v, p, w, q)
+    if !is_vertex(v) {
+        return Err(LineFault::Wrong(FaultKind::BadWord));
+    }
+    match read_turn(p) {
+        Ok(p) => {
+            if !is_vertex(w) {
+                return Err(LineFault::Wrong(FaultKind::BadWord));
+            }
+            match read_turn(q) {
+                Ok(q) => join(map, vertex_said(f, v), p, vertex_said(f, w), q),
+                Err(fault) => Err(LineFault::Wrong(FaultKind::from(fault))),
+            }
         }
+        Err(fault) => Err(LineFault::Wrong(FaultKind::from(fault))),
     }
 }
 
-// Joins two ports, where both vertices are there.
-fn join(map: &mut MapSoFar, v: Option<u32>, p: i8, w: Option<u32>, q: i8) -> Result<(), LineFault>
-    ensures reading { LineLeaves (cable_between map.old v p w q) map.new result }
-    ensures memory { IsErrOf result LineFault.NoMemory → IsOk (cable_between map.old v p w q) }
+// Joins two ports, where both vertices were read and are there.
+fn join(
+    map: &mut MapSoFar,
+    v: Option<MapVertex>,
+    p: i8,
+    w: Option<MapVertex>,
+    q: i8,
+) -> Result<(), LineFault>
+    ensures reading { LineLeaves (placed map.old MapLineKind.Cable (onto (option_map VertexAt v)
+        (onto (Some (TurnBy p)) (onto (option_map VertexAt w) (onto (Some (TurnBy q)) (Some [])))))) map.new result }
+    ensures memory { IsErrOf result LineFault.NoMemory
+        → IsOk (placed map.old MapLineKind.Cable (onto (option_map VertexAt v)
+        (onto (Some (TurnBy p)) (onto (option_map VertexAt w) (onto (Some (TurnBy q)) (Some [])))))) }
 {
-    match (v, w) {
+    let (Some(v), Some(w)) = (v, w) else {
+        return Err(LineFault::Wrong(FaultKind::NoVertex));
+    };
+    match (vertex_in(map, v), vertex_in(map, w)) {
         (Some(v), Some(w)) => map.add_cable(MapCable { v, p, w, q }),
         _ => Err(LineFault::Wrong(FaultKind::NoVertex)),
     }
 }
 
-// The vertex that a word names.
-fn vertex_named(map: &MapSoFar, f: &Fabric, word: &[u8]) -> Option<u32>
-    ensures { result ≡ vertex_named f.now map.now word.now }
+// The vertex of the map that a line names.
+fn vertex_in(map: &MapSoFar, v: MapVertex) -> Option<u32>
+    ensures { result ≡ vertex_in map.now v }
 {
-    match word {
-        [b'#', number @ ..] => switch_vertex(map, read_u32(number)),
-        _ => host_vertex(map, f.find(word)),
+    match v {
+        MapVertex::Host(h) => map.vertex_of_host(h),
+        MapVertex::Switch(s) => map.vertex_of_switch(s),
     }
 }
 
-// The vertex of a switch by the number that was read.
-fn switch_vertex(map: &MapSoFar, number: Result<u32, NumFault>) -> Option<u32>
-    ensures { result ≡ switch_vertex map.now number }
+// What a word says: `#K` a switch, another one a host of the fabric.
+fn vertex_said(f: &Fabric, word: &[u8]) -> Option<MapVertex>
+    ensures { result ≡ vertex_said f.now word.now }
 {
-    match number {
-        Ok(number) => map.vertex_of_switch(number),
+    match word {
+        [b'#', number @ ..] => switch_said(number),
+        _ => match host_said(f, word) {
+            Some(h) => Some(MapVertex::Host(h)),
+            None => None,
+        },
+    }
+}
+
+// A switch by its number.
+fn switch_said(number: &[u8]) -> Option<MapVertex>
+    ensures { result ≡ option_map MapVertex.Switch (number_said 4294967295 number.now) }
+{
+    match read_u32(number) {
+        Ok(s) => Some(MapVertex::Switch(s)),
         Err(_) => None,
     }
 }
 
-// The vertex of a host of the fabric.
-fn host_vertex(map: &MapSoFar, v: Option<Vertex>) -> Option<u32>
-    ensures { result ≡ host_vertex map.now v }
+// The host of a name.
+fn host_said(f: &Fabric, name: &[u8]) -> Option<u16>
+    ensures { result ≡ host_said f.now name.now }
 {
-    match v {
-        Some(Vertex::Host(h)) => map.vertex_of_host(h),
-        Some(Vertex::Switch(_)) => None,
-        None => None,
-    }
-}
-
-// The form of `V P`: a vertex and a port, which is answered.
-fn read_end(vertex: &[u8], port: &[u8]) -> Result<i8, FaultKind>
-    ensures { result ≡ end_word vertex.now port.now }
-{
-    if !is_vertex(vertex) {
-        return Err(FaultKind::BadWord);
-    }
-    match read_turn(port) {
-        Ok(port) => Ok(port),
-        Err(fault) => Err(FaultKind::from(fault)),
+    match f.find(name) {
+        Some(Vertex::Host(h)) => Some(h),
+        _ => None,
     }
 }
 
@@ -240,35 +268,9 @@ fn is_number(number: Result<u32, NumFault>) -> bool
     }
 }
 
-// Whether a word is `#K` with the number of the next switch.
-fn is_next(map: &MapSoFar, word: &[u8]) -> bool
-    ensures { result ≡ is_next map.now word.now }
+// Whether a word is the mark of a switch.
+fn is_mark(word: &[u8]) -> bool
+    ensures { result ≡ is_among (codes "core" ∷ codes "outside" ∷ []) word.now }
 {
-    match word {
-        [b'#', number @ ..] => says(read_u32(number), map.switches()),
-        _ => false,
-    }
-}
-
-// Whether the number that was read is this one.
-fn says(number: Result<u32, NumFault>, next: usize) -> bool
-    ensures { result ≡ says number next }
-{
-    match number {
-        Ok(number) => number as usize == next,
-        Err(_) => false,
-    }
-}
-
-// `core` or `outside`
-fn read_mark(word: &[u8]) -> Result<bool, FaultKind>
-    ensures { result ≡ mark_word word.now }
-{
-    if is_keyword(word, b"core") {
-        Ok(true)
-    } else if is_keyword(word, b"outside") {
-        Ok(false)
-    } else {
-        Err(FaultKind::BadWord)
-    }
+    is_keyword(word, b"core") || is_keyword(word, b"outside")
 }

@@ -1,9 +1,9 @@
 //! The text of a map, printed and read back; and where all that makes, renumbers and judges a map is reached.
 //!
 //! It makes no map of a journal: `quotient` and `closed` are those of `map_quotient`, `canon` that of
-//! `map_renumber`. It prints no other line of a report. `specs/LineText.antt` of `run_defs` says what
-//! the lines of a map are; `specs/Declaring.antt` and `specs/Reading.antt` here say which texts are read, as which
-//! map, and what the first fault of others is.
+//! `map_renumber`. It prints no other line of a report. `map_form` of `line_table` has the rows of a map's lines, and
+//! `specs/LineText.antt` of `run_defs` which of them a map has; `specs/Declaring.antt` and `specs/Reading.antt` here say
+//! which texts are read, as which map, and what the first fault of others is.
 //!
 //! | module | has |
 //! |---|---|

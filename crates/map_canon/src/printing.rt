@@ -1,13 +1,11 @@
 //! The lines of a map.
 
-ghost use Rattle.std.specs.Prelude.{◌≡◌, ◌++◌, flat_map, IfOk, OnOk};
-ghost use Rattle.fab_text.specs.Written.{line_text};
+ghost use Rattle.std.specs.Prelude.{◌≡◌, ◌++◌, map, flat_map, IfOk, OnOk};
 ghost use Rattle.line_writing.specs.Words.{word_text};
 ghost use Rattle.net_defs.specs.Turn.{IsTurn};
-ghost use Rattle.run_defs.specs.LineText.{map_text, vertices_text, vertex_words, vertex_numbered};
-ghost use Rattle.line_table.specs.Texts.{vertex_text};
-ghost use Rattle.run_defs.specs.LineText.{cable_words, core_word};
-ghost use Rattle.line_table.specs.Texts.{turn_text};
+ghost use Rattle.line_table.specs.Texts.{turn_text, vertex_text};
+ghost use Rattle.run_defs.specs.LineText.{map_text, map_line_text, vertex_lines, vertex_line, vertex_numbered};
+ghost use Rattle.run_defs.specs.LineText.{cable_line, core_word};
 ghost use Rattle.map_canon.specs.Printing.{AreOfFabric, IsOfFabric, IsReadBack};
 
 use fabric_map::{FabricMap, MapCable, MapVertex};
@@ -37,7 +35,8 @@ pub fn print_map(alloc: Global, m: &FabricMap, f: &Fabric) -> Result<Vec<u8>, Al
 // A line for each vertex.
 fn print_vertices(m: &FabricMap, f: &Fabric, text: &mut Vec<u8>) -> Result<(), AllocError>
     requires { AreOfFabric f.now m.now }
-    ensures { OnOk result (text.new.items ≡ text.old.items ++ vertices_text f.now m.now.vertices m.now.core) }
+    ensures { OnOk result (text.new.items ≡ text.old.items
+        ++ flat_map (map_line_text f.now) (vertex_lines m.now.vertices m.now.core)) }
 {
     let core = m.core();
     for (v, vertex) in m.vertices().iter().enumerate() {
@@ -50,7 +49,7 @@ fn print_vertices(m: &FabricMap, f: &Fabric, text: &mut Vec<u8>) -> Result<(), A
 fn print_cables(m: &FabricMap, f: &Fabric, text: &mut Vec<u8>) -> Result<(), AllocError>
     requires { AreOfFabric f.now m.now }
     ensures { OnOk result (text.new.items ≡ text.old.items
-        ++ flat_map (λ c. line_text (cable_words f.now m.now c)) m.now.cables) }
+        ++ flat_map (map_line_text f.now) (map (cable_line m.now) m.now.cables)) }
 {
     for c in m.cables() {
         cable_line(text, m, f, *c)?;
@@ -61,7 +60,7 @@ fn print_cables(m: &FabricMap, f: &Fabric, text: &mut Vec<u8>) -> Result<(), All
 // `host NAME`, or `switch #K` with its mark
 fn vertex_line(text: &mut Vec<u8>, f: &Fabric, v: MapVertex, core: bool) -> Result<(), AllocError>
     requires { IsOfFabric f.now v }
-    ensures { OnOk result (text.new.items ≡ text.old.items ++ line_text (vertex_words f.now v core)) }
+    ensures { OnOk result (text.new.items ≡ text.old.items ++ map_line_text f.now (vertex_line v core)) }
 {
     match v {
         MapVertex::Host(h) => {
@@ -86,7 +85,7 @@ fn cable_line(text: &mut Vec<u8>, m: &FabricMap, f: &Fabric, c: MapCable) -> Res
     requires hosts { AreOfFabric f.now m.now }
     requires port_p { IsTurn c.p }
     requires port_q { IsTurn c.q }
-    ensures { OnOk result (text.new.items ≡ text.old.items ++ line_text (cable_words f.now m.now c)) }
+    ensures { OnOk result (text.new.items ≡ text.old.items ++ map_line_text f.now (cable_line m.now c)) }
 {
     let v = vertex_word(m, f, c.v);
     let p = port_word(c.p);
@@ -95,14 +94,14 @@ fn cable_line(text: &mut Vec<u8>, m: &FabricMap, f: &Fabric, c: MapCable) -> Res
     append_line(text, &[Text(b"cable"), v, p, w, q])
 }
 
-// The name of a vertex, if it is there.
+// The name of a vertex by its number.
 fn vertex_word<'a>(m: &FabricMap, f: &'a Fabric, v: u32) -> Word<'a>
     requires { AreOfFabric f.now m.now }
-    ensures { word_text result ≡ vertex_numbered f.now m.now v }
+    ensures { word_text result ≡ vertex_text f.now (vertex_numbered m.now v) }
 {
     match m.vertices().get(v as usize) {
         Some(vertex) => name_word(f, *vertex),
-        None => Text(b""),
+        None => Marked(b'#', 0),
     }
 }
 

@@ -1,10 +1,9 @@
-use Rattle.std.proofs.Common.{◌≡◌, ◌<◌, ◌++◌, List, length, get_or, pos, sym, subst, ◌∙◌}
+use Rattle.std.proofs.Common.{◌≡◌, ◌<◌, ◌+◌, ◌++◌, List, map, length, take, get_or, pos, sym, subst, ◌∙◌}
 use Rattle.std.proofs.lemmas.Option.{slice_get-get_or}
 use Rattle.net_defs.specs.Turn.{IsTurn}
 use Rattle.map_defs.specs.declared.vertex.MapCable.{MapCable}
-use Rattle.fab_text.specs.Written.{line_text}
-use Rattle.run_defs.specs.LineText.{cable_words}
-use Rattle.map_canon.proofs.Printed.{printed-cable, cable-turns}
+use Rattle.run_defs.specs.LineText.{map_line_text, cable_line}
+use Rattle.map_canon.proofs.Printed.{cables-more, printed-line, cable-turns}
 use Rattle.map_canon.proofs.printing.print_cables.Goals as goal
 
 abbrev none : MapCable
@@ -35,6 +34,8 @@ loop-c-preserved c =
     let i = c.loop-c.c-index in
     let e = c.cables-c-items.ensures.value in
     let low : i < length m.cables = subst (λ (l : List MapCable). i < length l) e c.loop-c-test.true in
-    let line : c.cable_line.new.text.items ≡ c.loop-c.text.items ++ line_text (cable_words f m (get_or m.cables i none)) =
-    c.in_ok-cable_line.ensures ∙ (λ j. c.loop-c.text.items ++ line_text (cable_words f m (get_or (e j) i none))) in
-    printed-cable f m i (get_or m.cables i none) c.args.text.now.items c.loop-c.text.items c.cable_line.new.text.items (slice_get-get_or m.cables i none low) c.loop-c.invariant line
+    let k = get_or m.cables i none in
+    let line : c.cable_line.new.text.items ≡ c.loop-c.text.items ++ map_line_text f (cable_line m k) =
+    c.in_ok-cable_line.ensures ∙ (λ j. c.loop-c.text.items ++ map_line_text f (cable_line m (get_or (e j) i none))) in
+    printed-line f (map (cable_line m) (take i m.cables)) (map (cable_line m) (take (i + 1) m.cables)) (cable_line m k) c.args.text.now.items c.loop-c.text.items c.cable_line.new.text.items
+    (cables-more m m.cables i none low) c.loop-c.invariant line
