@@ -20,8 +20,9 @@ use Rattle.input_texts.specs.Generated.{gen_fabric, gen_commands}
 use Rattle.input_texts.specs.Reading.{AcceptedText, IsAccepted}
 use Rattle.input_texts.proofs.Refusing.{generated-accepted}
 use Rattle.fabric_run.specs.Ends.{HasVerticesOf}
-use Rattle.fabric_run.specs.Generated.{IsCounted, HaveCounted, HasSixLines, IsGenerated}
-use Rattle.fabric_run.proofs.GeneratedRun.{generated-six}
+use Rattle.gen_laws.specs.Summary.{HasSixLines}
+use Rattle.gen_laws.proofs.GeneratedRun.{generated-six}
+use Rattle.fabric_run.specs.Generated.{IsCounted, HaveCounted, IsGenerated}
 use Rattle.fabric_run.proofs.Naming.{summary-named}
 use Rattle.fabric_run.proofs.Writing.{take-one}
 

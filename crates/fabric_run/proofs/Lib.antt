@@ -1,15 +1,10 @@
-pub mod Calm
-pub mod Chains
 pub mod Counting
 pub mod Duos
 pub mod Endings
-pub mod Figures
 pub mod Following
-pub mod GeneratedRun
 pub mod Judging
 pub mod Lefts
 pub mod Naming
-pub mod Pairs
 pub mod Promises
 pub mod Reports
 pub mod Told

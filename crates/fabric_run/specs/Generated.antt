@@ -1,18 +1,17 @@
 -- How a generated run ends.
-use Rattle.std.specs.Prelude.{◌≡◌, ℕ, ◌+◌, ◌-◌, ◌*◌, List, [], ◌∷◌, ◌++◌, Option, Some, None}
+use Rattle.std.specs.Prelude.{◌≡◌, ℕ, List, ◌++◌, Option, Some, None}
 use Rattle.std.specs.Io.KnownBytes.{Appends}
 use Rattle.net_defs.specs.Network.{Network}
 use Rattle.fab_outer.specs.Whole.{TakesProperPrefix}
 use Rattle.run_defs.specs.declared.command.Command.{Command}
 use Rattle.run_defs.specs.declared.figure.Figure.{Figure}
-use Rattle.run_defs.specs.declared.line.Line.TheVariants.{Routes, Installed, Settle, GenHead, GenMap}
-use Rattle.run_defs.specs.declared.line.MapWords.TheVariants.{Complete}
 use Rattle.run_defs.specs.Output.{Piece, lines}
 use Rattle.run_defs.specs.Session.{SessionState}
 use Rattle.run_defs.specs.Run.{IsRun, Does}
 use Rattle.run_defs.specs.LineText.{output_text}
-use Rattle.run_defs.specs.Summary.{figures_in, count_line, summary}
+use Rattle.run_defs.specs.Summary.{figures_in, summary}
 use Rattle.fabric_gen.specs.Text.{gen_text}
+use Rattle.gen_laws.specs.Summary.{HasSixLines}
 use Rattle.fabric_run.specs.declared.status.Status.{Status}
 use Rattle.fabric_run.specs.declared.status.Status.TheVariants.{Done, WriteFault, NoMemory}
 use Rattle.input_texts.specs.Reading.{AcceptedText, IsAccepted}
@@ -30,19 +29,6 @@ pub record HaveCounted (n : Network) (commands : List Command) (figures : List F
   pub output : List Piece
   pub run : IsRun n commands output last
   pub counted : figures ≡ figures_in output
-
--- A summary has exactly six lines, in this order: a fabric of so many hosts and switches, and of one cable less than
--- both; a map that says complete; a route from each host to each other one; an installation that counts all hosts; how
--- many sends were accepted and how many messages received, by the figures; and a settle.
-pub record HasSixLines (hosts seed : ℕ) (n : Network) (figures : List Figure) : Type 0 where
-  pub asks : ℕ
-  pub packets : ℕ
-  pub rounds : ℕ
-  pub resets : ℕ
-  pub unacked : ℕ
-  pub are : summary hosts seed n figures
-      ≡ GenHead hosts seed hosts hosts (hosts + hosts - 1) ∷ GenMap Complete asks packets
-      ∷ Routes (hosts * (hosts - 1)) ∷ Installed hosts hosts ∷ count_line figures ∷ Settle rounds resets unacked ∷ []
 
 -- The run of the text of so many hosts and a seed: the text is accepted, all its commands ran and led to this session,
 -- and this is the summary of what they printed, which has its six lines.

@@ -1,5 +1,5 @@
 -- The figures of what the commands of a generated text print.
-use Rattle.std.proofs.Common.{◌≡◌, ℕ, true, not, List, [], ◌∷◌, ◌++◌, map, length, Some, refl, sym, ap, ◌∙◌, subst, append_assoc, if◌then◌else◌}
+use Rattle.std.proofs.Common.{◌≡◌, ℕ, zero, suc, true, not, List, [], ◌∷◌, ◌++◌, map, length, replicate, Some, refl, sym, ap, ◌∙◌, subst, append_assoc, if◌then◌else◌}
 use Rattle.std.specs.Prelude.{flat_map, min}
 use Rattle.std.specs.List.{AllByRecursion}
 use Rattle.std.proofs.lemmas.Grind.{flat_map-append}
@@ -7,33 +7,30 @@ use Rattle.net_defs.specs.declared.route.Route.{Route}
 use Rattle.map_defs.specs.NetMap.{NetMap}
 use Rattle.map_defs.specs.Orientation.{order_of}
 use Rattle.map_defs.specs.Ranks.{ranks_of}
-use Rattle.world_defs.specs.declared.effect.Said.{Said}
-use Rattle.world_defs.specs.declared.effect.Said.TheVariants.{Token, Received}
-use Rattle.world_defs.specs.Client.{sent_by, polled_by}
+use Rattle.world_defs.specs.Acts.{acted_all}
 use Rattle.world_defs.specs.Links.{is_idle}
 use Rattle.world_defs.specs.Log.{Log}
 use Rattle.world_defs.specs.Logs as log
 use Rattle.world_defs.specs.Logs.{Rounds}
 use Rattle.world_defs.specs.Settle.{unacknowledged_in}
-use Rattle.world_defs.specs.Step.{wanted}
-use Rattle.world_defs.specs.World.{WorldState, node_at, client_at, last_count}
+use Rattle.world_defs.specs.World.{WorldState, last_count}
 use Rattle.run_defs.specs.declared.command.Command.{Command}
-use Rattle.run_defs.specs.declared.command.Command.TheVariants.{Install, Begin, Poll, Provide, Send, Plan, Settle, Finish}
+use Rattle.run_defs.specs.declared.command.Command.TheVariants.{Install, Settle, Finish}
 use Rattle.run_defs.specs.declared.figure.Figure.{Figure}
 use Rattle.run_defs.specs.declared.figure.Figure.TheVariants.{Installed as FigureInstalled, Routed, Settled}
-use Rattle.run_defs.specs.declared.line.ClientCall.TheVariants.{Send as SendCall, Poll as PollCall}
 use Rattle.run_defs.specs.declared.line.InstallCause.TheVariants.{Busy}
 use Rattle.run_defs.specs.declared.line.Line.{Line}
-use Rattle.run_defs.specs.declared.line.Line.TheVariants.{InstallRefused, EndRoutes}
+use Rattle.run_defs.specs.declared.line.Line.TheVariants.{InstallRefused, EndRoutes, Finish as FinishLine}
 use Rattle.run_defs.specs.Deed.{Deed, says}
-use Rattle.run_defs.specs.Outcome.{may_install, refusal_cause, table_line, installation, install, install_now, deed_of}
+use Rattle.run_defs.specs.Outcome.{may_install, refusal_cause, table_line, installation, install, install_now, happening, settle_lines as settled_lines}
 use Rattle.run_defs.specs.Output.{Piece, lines}
 use Rattle.run_defs.specs.Run.{IsDeed, Does, Runs, route_line, rank_line, routes_lines}
-use Rattle.run_defs.specs.Run.IsDeed.{determined, maps, circuits, routes}
+use Rattle.run_defs.specs.Run.IsDeed.{determined}
 use Rattle.run_defs.specs.Run.Runs.{ended, goes_on}
 use Rattle.run_defs.specs.Session.{SessionState, LastRoutes}
-use Rattle.run_defs.specs.Summary.{call_figures, figures_of, figures_in, piece_figures, mapping_lines, settle_lines}
-use Rattle.run_defs.proofs.ByKind.{InDeed}
+use Rattle.run_defs.specs.Summary.{figures_of, figures_in, mapping_lines, settle_lines}
+use Rattle.run_defs.proofs.Doing.{does-world, acted-settle}
+use Rattle.run_laws.proofs.RunsOnce.{deed-one}
 
 -- a run in two parts, and its first command
 pub record AreParts (s last : SessionState) (cs ds : List Command) (all : List Piece) : Type 0 where
@@ -75,6 +72,13 @@ counted-both fs gs a b = record {
   settling = flat_map-append settle_lines fs gs ∙ ap (λ ls. ls ++ flat_map settle_lines gs) a.settling ∙ b.settling;
 }
 
+-- such are figures of one kind that no line shows
+pub counted-many : (f : Figure) (k : ℕ) → mapping_lines f ≡ [] → settle_lines f ≡ [] → AreCounted (replicate k f)
+counted-many f zero m s = none-counted
+counted-many f (suc k) m s =
+    let rest = counted-many f k m s in
+    record { mapping = (λ i. m i ++ rest.mapping i); settling = (λ i. s i ++ rest.settling i) }
+
 -- lines without figures
 abbrev HasNone : Line → Type 0
 HasNone l = figures_of l ≡ []
@@ -91,69 +95,29 @@ tables-none : (w : WorldState) (hs : List ℕ) → AllByRecursion HasNone (map (
 tables-none w [] = tt
 tables-none w (h ∷ hs) = (refl, tables-none w hs)
 
--- what clients and plans print is only counted, and so is the end
-abbrev pub IsOfClients : Command → Type 0
-IsOfClients (Begin host port sends recvs) = Unit {0}
-IsOfClients (Provide host port size prio) = Unit {0}
-IsOfClients (Send host port dest dport prio len seed) = Unit {0}
-IsOfClients (Poll host port) = Unit {0}
-IsOfClients (Plan ahead kind) = Unit {0}
-IsOfClients Finish = Unit {0}
-IsOfClients _ = ⊥
-
-sent-counted : (said : Said) → AreCounted (call_figures SendCall said ++ [])
-sent-counted (Token t) = record { mapping = refl; settling = refl }
-sent-counted said = none-counted
-
-polled-counted : (said : Said) → AreCounted (call_figures PollCall said ++ [])
-polled-counted (Received t from sport prio bytes) = record { mapping = refl; settling = refl }
-polled-counted said = none-counted
-
-abbrev PrintsCounted : Deed → Type 0
-PrintsCounted d = AreCounted (figures_in d.output)
-
-clients-deed : (s : SessionState) (c : Command) → IsOfClients c → InDeed PrintsCounted (deed_of s c)
-clients-deed s (Begin h port sends recvs) is = none-counted
-clients-deed s (Provide h port size prio) is = none-counted
-clients-deed s (Send h port dest dport prio len seed) is = sent-counted (sent_by (node_at s.world h) (wanted port dest dport prio len seed) (client_at s.world h port)).said
-clients-deed s (Poll h port) is = polled-counted (polled_by (node_at s.world h) port (client_at s.world h port)).said
-clients-deed s (Plan ahead kind) is = none-counted
-clients-deed s Finish is = none-counted
-clients-deed s c is = absurd is
-
-clients-print : {s : SessionState} {c : Command} {d : Deed} → IsOfClients c → IsDeed s c d → PrintsCounted d
-clients-print {s = s} {c = c} is (determined e) = subst (InDeed PrintsCounted) e (clients-deed s c is)
-clients-print is (maps after j m words idle made same) = absurd is
-clients-print is (circuits out told same) = absurd is
-clients-print is (routes l found complete are same) = absurd is
-
-pub clients-run : {s last : SessionState} {cs : List Command} {out : List Piece} → AllByRecursion IsOfClients cs → Runs s cs out last → AreCounted (figures_in out)
-clients-run all ended = none-counted
-clients-run all (goes_on {out = out} {rest = rest} d r e) =
-    let here : AreCounted (figures_in out) = subst (λ o. AreCounted (figures_in o)) (sym d.prints) (clients-print all.0 d.is) in
-    subst (λ o. AreCounted (figures_in o)) (sym e)
-    (subst AreCounted (sym (flat_map-append piece_figures out rest)) (counted-both (figures_in out) (figures_in rest) here (clients-run all.1 r)))
-
 -- a settle has one figure
-pub record IsSettledOnce (out : List Piece) : Type 0 where
+pub record IsSettledOnce (s next : SessionState) (out : List Piece) : Type 0 where
   pub rounds : ℕ
   pub resets : ℕ
-  pub unacked : ℕ
-  pub are : figures_in out ≡ Settled rounds resets unacked ∷ []
+  pub are : figures_in out ≡ Settled rounds resets (unacknowledged_in (log.settle s.world).world) ∷ []
+  pub world : next.world ≡ (log.settle s.world).world
 
-abbrev PrintsSettle : Deed → Type 0
-PrintsSettle d = IsSettledOnce d.output
-
-settle-deed : (s : SessionState) → InDeed PrintsSettle (deed_of s Settle)
-settle-deed s =
+pub settle-figures : {s next : SessionState} {out : List Piece} → Does s Settle out next → IsSettledOnce s next out
+settle-figures {s = s} d =
     let l : Log Rounds = log.settle s.world in
-    record { rounds = l.value.rounds; resets = min l.value.resets last_count; unacked = unacknowledged_in l.world; are = refl }
+    let same : d.deed ≡ happening l.events (settled_lines l) = deed-one d.is (determined refl) in
+    record {
+      rounds = l.value.rounds;
+      resets = min l.value.resets last_count;
+      are = ap figures_in d.prints ∙ ap (λ (x : Deed). figures_in x.output) same;
+      world = does-world d ∙ ap (λ (x : Deed). acted_all s.world x.acts) same ∙ acted-settle s.world;
+    }
 
-settle-prints : {s : SessionState} {d : Deed} → IsDeed s Settle d → PrintsSettle d
-settle-prints {s = s} (determined e) = subst (InDeed PrintsSettle) e (settle-deed s)
-
-pub settle-figures : {s next : SessionState} {out : List Piece} → Does s Settle out next → IsSettledOnce out
-settle-figures d = subst IsSettledOnce (sym d.prints) (settle-prints d.is)
+-- the end has none
+pub finish-figures : {s next : SessionState} {out : List Piece} → Does s Finish out next → figures_in out ≡ []
+finish-figures {s = s} d =
+    let same : d.deed ≡ says (FinishLine s.world.injected s.world.dropped ∷ []) = deed-one d.is (determined refl) in
+    ap figures_in d.prints ∙ ap (λ (x : Deed). figures_in x.output) same
 
 -- routes have one figure
 pub routes-figures : (m : NetMap) (found : List Route) → figures_in (lines (routes_lines m found)) ≡ Routed (length found) ∷ []
@@ -165,18 +129,15 @@ routes-figures m found =
     ap (λ fs. Routed (length found) ∷ fs) (lines-none (map route_line found ++ ranks ++ EndRoutes ∷ []) rest)
 
 -- an installation that nothing refuses, and its one figure
-same-deed : (x y : Deed) → Some x ≡ Some y → x ≡ y
-same-deed x y e = cc
-
 pub installs-now : {s : SessionState} {d : Deed} (l : LastRoutes) (tries : ℕ) → s.last_routes ≡ Some l → is_idle s.world.links ≡ true → may_install s.world l ≡ true → IsDeed s (Install tries) d → d ≡ install_now s.world l tries
-installs-now {s = s} {d = d} l tries are idle may (determined e) =
+installs-now {s = s} l tries are idle may is =
     let w : WorldState = s.world in
     let refused : Deed = says (InstallRefused (refusal_cause w l) ∷ []) in
     let now : install w tries s.last_routes ≡ install_now w l tries =
     ap (install w tries) are
     ∙ ap (λ b. if not b then says (InstallRefused Busy ∷ []) else if not (may_install w l) then refused else install_now w l tries) idle
     ∙ ap (λ b. if not b then refused else install_now w l tries) may in
-    sym (same-deed (install w tries s.last_routes) d e) ∙ now
+    deed-one is (determined refl) ∙ now
 
 pub install-figures : (w : WorldState) (l : LastRoutes) (tries : ℕ) → figures_in (install_now w l tries).output ≡ FigureInstalled (installation w l tries).value (length l.hosts) ∷ []
 install-figures w l tries =

@@ -1,0 +1,16 @@
+pub mod Counts
+pub mod Hosts
+pub mod Opening
+pub mod Calling
+pub mod Steady
+pub mod Beginning
+pub mod Delivering
+pub mod Polling
+pub mod Acting
+pub mod Calls
+pub mod Calm
+pub mod Chains
+pub mod Figures
+pub mod Pairs
+pub mod FirstCommands
+pub mod GeneratedRun
