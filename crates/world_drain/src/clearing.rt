@@ -35,8 +35,8 @@ pub fn clear(alloc: Global, w: &mut World) -> Result<u64, AllocError>
     reset_full(alloc, w)
 }
 
-// Resets each channel that holds a packet, by rising number: how many. Those that are empty have nothing to reset.
-fn reset_full(alloc: Global, w: &mut World) -> Result<u64, AllocError>
+/// Resets each channel that holds a packet, by rising number: how many. Those that are empty have nothing to reset.
+pub(crate) fn reset_full(alloc: Global, w: &mut World) -> Result<u64, AllocError>
     ensures ok { IfOk result (λ resets. reset_count (steps w.old (resets_of w.old)) ≡ (resets, w.new)) }
     ensures few { IfOk result (λ resets. resets ≤ 8192) }
     ensures err { OnErr result (IsPartWay w.old (resets_of w.old) w.new) }
