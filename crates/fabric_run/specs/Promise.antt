@@ -10,6 +10,7 @@ use Rattle.run_defs.specs.Deed.{session_after}
 use Rattle.run_defs.specs.Output.{Piece}
 use Rattle.run_defs.specs.Session.{SessionState}
 use Rattle.run_defs.specs.Run.{IsRun}
+use Rattle.print_laws.specs.Alike.{StandAlike}
 use Rattle.print_laws.specs.Shown.{PrintsMap}
 use Rattle.client_laws.specs.Seen.{PolledIsFrontOfAccepted}
 use Rattle.client_laws.specs.Noted.{SentEventsAreOfTokens, PolledTokensAreOfMessages}
@@ -45,7 +46,7 @@ pub record IsComplete (a : AcceptedText) (s : SessionState) (host : ℕ) (m : Ne
 abbrev pub CompleteMapsAreOne : AcceptedText → Type 0
 CompleteMapsAreOne a =
     (s t : SessionState) (host : ℕ) (m k : NetMap) → IsComplete a s host m → IsComplete a t host k
-    → fabric_of s.world ≡ fabric_of t.world → m ≡ k
+    → StandAlike (fabric_of s.world) (fabric_of t.world) → m ≡ k
 
 -- after the first commands of a text the world is reached: the acts of these commands, one command's after the other's,
 -- may happen and lead to it from the first world

@@ -4,6 +4,7 @@ pub mod Lengths
 pub mod ReadAgain
 pub mod Pieces
 pub mod Standing
+pub mod Alike
 pub mod Shown
 pub mod Marks
 pub mod Routes

@@ -38,6 +38,7 @@ use Rattle.mapping_laws.proofs.Sessions.{can-map-now, run_keeps_world}
 use Rattle.print_laws.specs.Standing.{StandsOver}
 use Rattle.print_laws.specs.Shown.{IsPrintedAfter, PrintedMapsStand, CompleteMapsAreOne}
 use Rattle.print_laws.proofs.Standing.{quotient-stands}
+use Rattle.print_laws.proofs.Alike.{true-alike}
 
 -- A map that was made in a session.
 pub record IsMade (s next : SessionState) (host depth tries : ℕ) (words : MapWords) (m : NetMap) : Type 0 where
@@ -232,11 +233,11 @@ true-of n host m a =
 
 pub complete_maps_are_one : CompleteMapsAreOne
 complete_maps_are_one n commands others host m k f p q same =
-    let now : Network = fabric_of p.session.world in
-    let then_true : IsTrueJournal now host (mapping-of n others host Complete k f q).journal = subst (λ x. IsTrueJournal x host (mapping-of n others host Complete k f q).journal) (sym same) (true-of (fabric_of q.session.world) host k (mapping-of n others host Complete k f q)) in
+    let now : Network = fabric_of q.session.world in
     let a = mapping-of n commands host Complete m f p in
     let b = mapping-of n others host Complete k f q in
     let one : a.journal ≡ b.journal =
-    journals-one now host a.depth b.depth a.mapped.drowned b.mapped.drowned a.journal b.journal (true-of now host m a) then_true
+    journals-one now host a.depth b.depth a.mapped.drowned b.mapped.drowned a.journal b.journal
+    (true-alike (fabric_of p.session.world) now same host a.journal (true-of (fabric_of p.session.world) host m a)) (true-of now host k b)
     (called-whole host a.journal a.mapped.drowned a.mapped.called) (called-whole host b.journal b.mapped.drowned b.mapped.called) a.mapped.grown b.mapped.grown in
     maps-one host b.journal a.made.unmarked b.made.unmarked m k (subst (λ j. IsQuotient host j a.made.unmarked) one a.made.quotient) b.made.quotient a.made.marked b.made.marked

@@ -13,6 +13,7 @@ use Rattle.run_defs.specs.Output.{Piece, OneLine, MapLines}
 use Rattle.run_defs.specs.Session.{SessionState}
 use Rattle.run_defs.specs.Run.{Does, IsRun}
 use Rattle.run_defs.specs.Headline.{FitsFabric}
+use Rattle.print_laws.specs.Alike.{StandAlike}
 use Rattle.print_laws.specs.Standing.{StandsOver}
 
 -- A command `map` prints its line with these words, and a map.
@@ -44,4 +45,4 @@ abbrev pub CompleteMapsAreOne : Type 0
 CompleteMapsAreOne =
     (n : Network) (first second : List Command) (host : ℕ) (m k : NetMap) → IsFabric n
     → (a : IsPrintedAfter n first host Complete m) → (b : IsPrintedAfter n second host Complete k)
-    → fabric_of a.session.world ≡ fabric_of b.session.world → m ≡ k
+    → StandAlike (fabric_of a.session.world) (fabric_of b.session.world) → m ≡ k

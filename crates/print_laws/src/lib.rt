@@ -8,6 +8,7 @@
 //! |---|---|
 //! | `Printed` | that printed maps are read back |
 //! | `Standing` | what it means that each vertex and cable that a map shows is there |
+//! | `Alike` | when two fabrics stand alike, whichever numbers their cables have |
 //! | `Shown` | that it is so of every printed map, and that complete ones of one host over one fabric are one map |
 //! | `Marks` | that a complete map's marks are those of the fabric before its command |
 //! | `Routes` | that printed routes are those of a right map, led there, and that ranks rise along them |
