@@ -36,17 +36,22 @@ class Drawing:
     def __init__(self, fabric, kind=None, grid=None, notes=None, ports=True, more=()):
         self.fabric, self.notes, self.ports = fabric, notes or {}, ports
         self.layout, self.cables = layout_of(fabric, kind, grid), [*fabric.cables, *more]
-        self.slots, self.far = {it: {side: [] for side in OUT} for it in fabric.vertices()}, {}
-        self.taken = {it: self.take_slots(it) for it in self.cables}
         # Where hosts in one row would make it too wide, their names are written upwards.
         row = sum(wide(it, NAME) + 20 for it in fabric.hosts)
         self.upright = bool(getattr(self.layout, "rows", None)) and row > 1150
-        self.sizes = {it: self.size(it) for it in fabric.vertices()}
-        self.spots = self.layout.places(self.sizes)
+        for _ in range(getattr(self.layout, "rounds", 1)):
+            self.arrange()
         self.ends = {}
         for name in fabric.vertices():
             self.place_ends(name)
         self.move_into_view()
+
+    def arrange(self):
+        """The slots of all cables, by which boxes have their sizes, and by these the boxes their places."""
+        self.slots, self.far = {it: {side: [] for side in OUT} for it in self.fabric.vertices()}, {}
+        self.taken = {it: self.take_slots(it) for it in self.cables}
+        self.sizes = {it: self.size(it) for it in self.fabric.vertices()}
+        self.spots = self.layout.places(self.sizes)
 
     def take_slots(self, cable):
         """The slots of a cable's two ports: those that another cable took before it, where they are at the same side."""

@@ -13,9 +13,9 @@ __all__ = ["MOST_DEPTH", "MOST_HOSTS", "MOST_SWITCHES", "NAME", "PORT_COUNTS", "
 
 
 def load(path=None):
-    """The text of a file, or of standard input without one, each byte a character."""
+    """The text of a file, or of standard input without one and for `-`, each byte a character."""
     try:
-        read = Path(path).read_bytes() if path is not None else sys.stdin.buffer.read()
+        read = sys.stdin.buffer.read() if path in (None, "-") else Path(path).read_bytes()
     except OSError as error:
         raise OSError(error.errno, error.strerror, path or "standard input") from None
     except ValueError as error:

@@ -29,7 +29,7 @@ def read(text):
         raise NoTables(f"line {is_open}: this table has no end, as '12 lids dumped': the file is cut off")
     if not tables:
         head = "Unicast lids [0x0-0x15] of switch Lid 15 guid 0x0000000000200009 (s11):"
-        raise NoTables(f"it has no line as '{head}', as opensm and dump_lfts write them")
+        raise NoTables(f"it has no line like '{head}', which opensm and dump_lfts write")
     return tables
 
 

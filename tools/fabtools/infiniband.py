@@ -28,7 +28,7 @@ OTHERS = (
 
 READS = (
     "this reads what `ibnetdiscover` or `iblinkinfo` prints without options, ibutils' `.lst`, or an ibsim file: "
-    'lines as \'Switch 36 "S-0002c902"\' and \'Ca 1 "H-0002c903"\', with lines as \'[1] "S-0002c902"[3]\' below them'
+    'lines like \'Switch 36 "S-0002c902"\' and \'Ca 1 "H-0002c903"\', with lines like \'[1] "S-0002c902"[3]\' below them'
 )
 
 

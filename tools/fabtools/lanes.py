@@ -31,7 +31,7 @@ def read_paths(text):
             record = {}
     if not levels:
         one = "it has no path record, as `saquery PR --slid 3 --dlid 5` prints"
-        raise NoLanes(f"{one}, and no line as '3 5 1': two LIDs and a service level")
+        raise NoLanes(f"{one}, and no line like '3 5 1': two LIDs and a service level")
     return levels
 
 
@@ -46,7 +46,7 @@ def read_lanes(text):
             table[int(row[1]), int(row[2])] = [int(it) for it in row[3].split()]
     if not any(tables.values()):
         row, head = "3 1 : 0 1 2 3 4 5 6 7 0 1 2 3 4 5 6 7", 'Switch 0x2c9, base LID 2, "name"'
-        raise NoLanes(f"it has no line as '{row}' below one as '{head}', as opensm-sl2vl.dump has")
+        raise NoLanes(f"it has no line like '{row}' below one like '{head}', which opensm-sl2vl.dump has")
     return tables
 
 

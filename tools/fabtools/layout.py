@@ -8,6 +8,8 @@ import math
 from bisect import bisect_right, insort
 
 GAP = 14
+# So far the middle of a host stays from the cables of others.
+CLEAR = 24
 
 
 def between_switches(fabric):
@@ -214,9 +216,13 @@ def crossings(rows, near):
 class Free:
     """Switches at places of the plane, and their hosts beside them. Cables leave by the side that looks at their far end."""
 
+    # Boxes push each other away, so the sides are looked for once more where they stand then.
+    rounds = 2
+
     def __init__(self, fabric, spots, reach):
-        self.fabric, self.spots, self.reach = fabric, dict(spots), reach
+        self.fabric, self.spots, self.reach, self.sizes = fabric, dict(spots), reach, {}
         self.middle = [sum(it) / len(spots) for it in zip(*spots.values())]
+        self.lines = [(spots[a[0]], spots[b[0]]) for a, b in between_switches(fabric)]
         for name in spots:
             self.place_hosts(name)
         lost = [it for it in fabric.vertices() if it not in self.spots]
@@ -228,9 +234,22 @@ class Free:
         x, y = self.spots[name]
         taken = [math.atan2(self.spots[it][1] - y, self.spots[it][0] - x) for it in neighbours(self.fabric, name) if it in self.spots and it != name]
         for host in hosts_of(self.fabric, name):
-            angle = widest(taken, self.outward(name))
+            angle, self.spots[host] = self.free_spot(name, taken)
             taken.append(angle)
-            self.spots[host] = (x + self.reach * math.cos(angle), y + 0.8 * self.reach * math.sin(angle))
+
+    def free_spot(self, name, taken):
+        """The angle and the place of one more host: on no cable, as near as may be; if all are on one, where it is furthest off."""
+        x, y = self.spots[name]
+        lines = [it for it in [*self.lines, *zip(self.spots.values(), self.spots.values())] if distance((x, y), *it) < 3 * self.reach]
+        best = (-1,)
+        for reach in (self.reach, 1.3 * self.reach, 1.6 * self.reach):
+            spots = {it: (x + reach * math.cos(it), y + 0.8 * reach * math.sin(it)) for it in angles_from(self.outward(name))}
+            clear = {it: min([distance(spot, *line) for line in lines] + [CLEAR]) for it, spot in spots.items()}
+            most = max(clear.values())
+            if most > best[0]:
+                angle = widest(taken, self.outward(name), [it for it in spots if clear[it] == most])
+                best = most, angle, spots[angle]
+        return best[1:]
 
     def outward(self, name):
         x, y = self.spots[name]
@@ -240,12 +259,19 @@ class Free:
         if a[0] == b[0]:
             return "top", "top"
         (x, y), (u, v) = self.spots[a[0]], self.spots[b[0]]
-        if abs(u - x) > 0.8 * abs(v - y):
+        if self.are_side_by_side(a[0], b[0]):
             return ("right", "left") if u > x else ("left", "right")
         return ("bottom", "top") if v > y else ("top", "bottom")
 
+    def are_side_by_side(self, one, other):
+        """Whether a cable between two boxes is to leave them aside: not where one lies above the other."""
+        across, down = (abs(self.spots[one][k] - self.spots[other][k]) for k in (0, 1))
+        wide, high = (sum(self.sizes.get(it, (0, 0))[k] for it in (one, other)) / 2 for k in (0, 1))
+        return across > wide and (down < high or across > 0.8 * down)
+
     def places(self, sizes):
-        return pushed_apart(self.spots, sizes)
+        self.spots, self.sizes = pushed_apart(self.spots, sizes), sizes
+        return self.spots
 
 
 def pushed_apart(spots, sizes):
@@ -278,13 +304,24 @@ def push(one, other, size, far_size):
     return True
 
 
-def widest(taken, wanted):
-    """Of 48 angles the one that is furthest from all that are taken; among those nearly as far the one nearest to that wanted."""
+def angles_from(wanted):
+    return [wanted + step * math.pi / 24 for step in range(48)]
+
+
+def widest(taken, wanted, angles):
+    """The angle that is furthest from all that are taken; among those nearly as far the one nearest to that wanted."""
     def apart(one, other):
         return abs((one - other + math.pi) % (2 * math.pi) - math.pi)
 
-    angles = [wanted + step * math.pi / 24 for step in range(48)]
     return max(angles, key=lambda it: min([apart(it, other) for other in taken] + [1.2]) - 0.3 * apart(it, wanted))
+
+
+def distance(spot, one, other):
+    """How far a place is from the straight line between two others."""
+    (x, y), (u, v), (p, q) = spot, one, other
+    long = (p - u) ** 2 + (q - v) ** 2
+    along = min(1, max(0, ((x - u) * (p - u) + (y - v) * (q - v)) / long)) if long else 0
+    return math.hypot(x - u - along * (p - u), y - v - along * (q - v))
 
 
 class Round(Free):
