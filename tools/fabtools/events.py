@@ -36,7 +36,9 @@ def is_table(item):
 
 def event(line, words, item, waits):
     if isinstance(item, Map):
-        return Event("commands", line, item.line, f"{item.host} maps {words[2]} deep: {item.words}, by {counted(item.asks, 'ask')}")
+        asked = f"{item.host} maps {words[2]} deep: {item.words}, by {counted(item.asks, 'ask')}"
+        # The report that tools/judge-routes makes of a manager's files has a map that nobody asked for.
+        return Event("commands", line, item.line, asked if item.asks else "the network as it was given: no host mapped it")
     if isinstance(item, CircuitMap):
         return Event("commands", line, item.line, f"{item.host} maps circuit links {item.depth} deep, by {counted(item.asks, 'ask')}")
     if isinstance(item, Routes):
@@ -119,5 +121,5 @@ TELLERS = {
     "install": lambda words, answer: f"tables installed at {answer[1]} of {answer[3]} hosts",
     "open": lambda words, answer: f"{words[1]} opens port {words[2]} with {words[3]} send and {words[4]} receive tokens",
     "provide": lambda words, answer: f"{words[1]}:{words[2]} provides a buffer of size {words[3]}, priority {words[4]}",
-    "end": lambda words, answer: f"the end: {answer[2]} packets injected, {answer[4]} dropped",
+    "end": lambda words, answer: "the end" if answer[2] == "0" else f"the end: {answer[2]} packets injected, {answer[4]} dropped",
 }

@@ -19,4 +19,4 @@ head -n 40 "$room/given"
 judge-routes ibnetdiscover.txt updn-lfts.txt --one-lane
 MYRIFAB=/none judge-routes ibnetdiscover.txt nue-lfts.txt
 judge-routes ibnetdiscover.txt nue-lfts.txt --loads --own
-judge-routes ibnetdiscover.txt nue-lfts.txt --page | grep -o '<title>routes</title>\|<b>[0-9]*</b> routes'
+judge-routes ibnetdiscover.txt nue-lfts.txt --page | grep -o '<title>routes</title>\|<b>[0-9]*</b> routes\|maps [0-9]* deep\|no host mapped it'
