@@ -35,7 +35,7 @@ abbrev pub FirstCommandsLeaveRight : AcceptedText → Type 0
 FirstCommandsLeaveRight a = (count : ℕ) (out : List Piece) (last : SessionState)
     → IsRun a.network (take count a.commands) out last → IsWorldRight last.world
 
--- so no channel waits for itself along the installed routes
+-- so the channels of the installed routes wait in no cycle
 abbrev pub RoutesHaveNoCycle : AcceptedText → Type 0
 RoutesHaveNoCycle a = (count : ℕ) (out : List Piece) (last : SessionState)
     → IsRun a.network (take count a.commands) out last → HasNoCycle (IsBefore (installed_channels last.world))

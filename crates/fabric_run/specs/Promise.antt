@@ -42,7 +42,7 @@ pub record IsComplete (a : AcceptedText) (s : SessionState) (host : ℕ) (m : Ne
   pub next : SessionState
   pub prints : PrintsMap s next host depth tries Complete m
 
--- two complete maps of one host are one map where the fabric stood alike before them
+-- two complete maps of one host are one map if the fabric was the same before both
 abbrev pub CompleteMapsAreOne : AcceptedText → Type 0
 CompleteMapsAreOne a =
     (s t : SessionState) (host : ℕ) (m k : NetMap) → IsComplete a s host m → IsComplete a t host k
@@ -67,12 +67,12 @@ ReceivedLinesAreOfSends a = (count : ℕ) (out : List Piece) (last : SessionStat
     → AreReceivedAsSent a.network (take count a.commands) out last.world
 
 -- The promise of an accepted text. Its commands have a run, and one, whose text is the report. Each command is one
--- deed, of acts that may happen, and what its lines say is true; complete maps of one host are one while the fabric
--- stands alike. Each world after first commands is reached by their acts, and so is each one after a prefix of the acts
--- of the next command; each world that is reached is right. What polls handed out is a prefix of what sends were
--- accepted with, and what the lines `received` show, of what the `send` lines with a token handed in; a sent event that
--- waits has the bytes of the message that was last sent with its token, and a send token that a poll answers is of that
--- message, which is acknowledged. The two hosts that restart keep their own promise.
+-- deed, of acts that may happen, and what its lines say is true; complete maps of one host are one if the fabric was
+-- the same before both. Each world after first commands is reached by their acts, and so is each one after a prefix of
+-- the acts of the next command; each world that is reached is right. What polls handed out is a prefix of what sends
+-- were accepted with, and what the lines `received` show, of what the `send` lines with a token handed in; a sent event
+-- that waits has the bytes of the message that was last sent with its token, and a send token that a poll answers is of
+-- that message, which is acknowledged. The two hosts that restart keep their own promise.
 pub record IsPromised (a : AcceptedText) : Type 0 where
   pub report : HasRun a.network a.commands
   pub steps : StepsAreRight a

@@ -77,7 +77,7 @@ pub fn run<S: Source, K: Sink>(alloc: Global, words: &[Word], input: &mut S, out
     // Every accepted text, and so every prefix of its script, keeps the promise. It has one run. Each command does one
     // thing, by acts that may happen, each one action of one host, of one channel or of one cable; and what its lines
     // say is true. Of the fabric before its command, a map under the word complete is right, with its marks, and one
-    // host's are one map while the fabric stands alike; a deep one of a quiet fabric says so; a doubtful one has its
+    // host's are one map if the fabric was the same; a deep one of a quiet fabric says so; a doubtful one has its
     // cause while injections are left; whatever vertex or cable a map shows was there; a map of circuit links is the
     // circuit map to its depth. Printed routes led where they say as their map began, with ranks that rise. Each count
     // of installed hosts has its cause, and no more are counted than have their table; each settle ends settled, with

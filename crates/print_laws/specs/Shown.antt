@@ -40,7 +40,7 @@ abbrev pub PrintedMapsStand : Type 0
 PrintedMapsStand = (n : Network) (commands : List Command) (host : ℕ) (words : MapWords) (m : NetMap) → IsFabric n
     → (printed : IsPrintedAfter n commands host words m) → StandsOver (fabric_of printed.session.world) host m
 
--- two complete maps of one host are one map where the fabric stood alike before them, whatever runs led to them
+-- two complete maps of one host are one map if the fabric was the same before both, whatever runs led to them
 abbrev pub CompleteMapsAreOne : Type 0
 CompleteMapsAreOne =
     (n : Network) (first second : List Command) (host : ℕ) (m k : NetMap) → IsFabric n

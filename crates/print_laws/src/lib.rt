@@ -35,7 +35,7 @@ pub fn printed_maps()
 {}
 
 /// Each map that a run prints, under whatever words, stands over the fabric as it stood before its command; and two
-/// complete maps of one host are one map where the fabric stood alike before them, whatever depths, tries and planned
+/// complete maps of one host are one map if the fabric was the same before both, whatever depths, tries and planned
 /// faults there were.
 pub fn shown_maps()
     ensures stand { PrintedMapsStand }

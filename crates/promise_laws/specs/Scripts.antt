@@ -43,7 +43,7 @@ ScriptIsReached =
     (n : Network) (line : ℕ) (text : List ℕ) (commands : List Command) (out : List Piece) (last : SessionState)
     → IsFabric n → script_reading n line text ≡ Ok commands → IsRun n commands out last → IsReached n last.world
 
--- So no channel waits for itself along the routes that it installed.
+-- So the channels of the routes that it installed wait in no cycle.
 abbrev pub ScriptHasNoCycle : Type 0
 ScriptHasNoCycle =
     (n : Network) (line : ℕ) (text : List ℕ) (commands : List Command) (out : List Piece) (last : SessionState)

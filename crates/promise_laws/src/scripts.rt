@@ -11,7 +11,7 @@ pub fn maps_of_scripts()
     ensures deep { DeepMapsOfScriptsAreComplete }
 {}
 
-/// The run of a script is acts that may happen, so no channel waits for itself along the routes that it installed.
+/// The run of a script is acts that may happen, so the channels of the routes that it installed wait in no cycle.
 pub fn acts_of_scripts()
     ensures reached { ScriptIsReached }
     ensures no_cycle { ScriptHasNoCycle }

@@ -23,8 +23,8 @@ use port_graph::{Route, RouteSet};
 /// Checks that each route leads to its host, and that the ranks rise along it. The first route that fails is named:
 /// that it leads elsewhere before the faults of its channels, and these in their order.
 ///
-/// After `Ok` no channel waits for itself, by whatever chain of others. The routes and the ranks of a map by one
-/// order are always `Ok`. It takes no memory.
+/// After `Ok` the routes contain no cyclic wait, however long. The routes and the ranks of a map by one order are
+/// always `Ok`. It takes no memory.
 pub fn check(m: &FabricMap, r: &RouteSet, k: &Ranks) -> Result<(), CheckFault>
     ensures fault { Tells (first_fault m.now k.now r.now) result }
     ensures certified { IsOk result ↔ (AllByRecursion (λ s. LeadsTo m.now s.from s.to s.walk) r.now

@@ -46,7 +46,7 @@ abbrev pub RunIsReached : Type 0
 RunIsReached = (n : Network) (commands : List Command) (out : List Piece) (last : SessionState) → IsFabric n
     → AllByRecursion (IsActOf n) commands → IsRun n commands out last → IsReached n last.world
 
--- so along every run no channel waits for itself along the installed routes
+-- so after every run the channels of the installed routes wait in no cycle
 abbrev pub RunHasNoCycle : Type 0
 RunHasNoCycle = (n : Network) (commands : List Command) (out : List Piece) (last : SessionState) → IsFabric n
     → AllByRecursion (IsActOf n) commands → IsRun n commands out last

@@ -59,6 +59,6 @@ PartsAreOfSet =
     → packet_in w.links c ≡ Some held
     → decode held.wire ≡ Ok (Mapping, payload) → decode_mapping payload ≡ Some (Part p) → IsPart w.adopted p.dst p
 
--- no channel waits for itself along the installed routes
+-- the channels of the installed routes wait in no cycle
 abbrev pub InstalledHasNoCycle : Type 0
 InstalledHasNoCycle = (n : Network) (w : WorldState) → IsReached n w → HasNoCycle (IsBefore (installed_channels w))
