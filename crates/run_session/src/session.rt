@@ -95,7 +95,7 @@ impl Session {
 
     /// Does a command as [`Session::exec`] does, and prints it in place of what was printed before: its text, and what
     /// a summary shows of it. So one room serves for the texts of a whole run. It says where memory ran out: a refused
-    /// command runs out of it in its line alone.
+    /// command runs out of it in its line alone, unless it is of the two hosts that restart.
     pub fn perform(
         &mut self,
         alloc: Global,

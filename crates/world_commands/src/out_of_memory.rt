@@ -12,9 +12,9 @@ use run_defs::Line;
 /// Where memory ran out in a command.
 #[derive(Clone, Copy, Debug, PartialEq, Eq)]
 pub enum OutOfMemory {
-    /// While it was done, or a text of several lines was made. It isn't refused.
+    /// While it was done, or a text of several lines was made. It isn't refused, unless it is of the two hosts' lines.
     InDoing,
-    /// In the text of its one line. A refused command runs out of memory here alone.
+    /// In the text of its one line. A refused command runs out of memory here alone, unless it is of those lines.
     InLine,
 }
 
