@@ -2,8 +2,8 @@
 //!
 //! It makes no map of a journal: `quotient` and `closed` are those of `map_quotient`, `canon` that of
 //! `map_renumber`. It prints no other line of a report. `map_form` of `line_table` has the rows of a map's lines, and
-//! `specs/LineText.antt` of `run_defs` which of them a map has; `specs/Declaring.antt` and `specs/Reading.antt` here say
-//! which texts are read, as which map, and what the first fault of others is.
+//! `specs/LineText.antt` of `run_defs` which of them a map has; `specs/Declaring.antt` and `specs/Reading.antt` here
+//! say which texts are read, as which map, and what the first fault of others is.
 //!
 //! | module | has |
 //! |---|---|

@@ -30,7 +30,8 @@ pub record LinkState : Type 0 where
 
 -- the links of these cables without packets
 abbrev pub bare_links : CableHistory → LinkState
-bare_links h = record { cables = h; epoch = 0; channels = replicate (life_channels h) None; limbo = []; next_serial = 0 }
+bare_links h =
+    record { cables = h; epoch = 0; channels = replicate (life_channels h) None; limbo = []; next_serial = 0 }
 
 -- the links of a fabric without packets, before any change
 abbrev pub empty_links : Network → LinkState

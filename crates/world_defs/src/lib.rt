@@ -49,7 +49,7 @@
 //!            <- channel 1            <- channel 2
 //! ```
 //!
-//! The bodies of the mapper's protocol are bytes, by `specs/Mapping.antt`; what reads them are `probe` and `route_parts`.
+//! The bodies of the mapper's protocol are bytes, by `specs/Mapping.antt`; `probe` and `route_parts` read them.
 //!
 //! ```text
 //!   host probe       1 | number (8) | mapper (2) | n | n route bytes of the way back
