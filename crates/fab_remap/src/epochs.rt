@@ -15,7 +15,7 @@ use std::alloc::{AllocError, Global};
 /// so all of them happen.
 pub fn revoke(alloc: Global, w: &mut World) -> Result<u32, AllocError>
     ensures count { result ≡ Ok (revoked_count w.old) }
-    ensures few { IfOk result (λ n. n ≤ host_count w.old) }
+    ensures at_most_hosts { IfOk result (λ n. n ≤ host_count w.old) }
     ensures after { w.new ≡ (steps w.old (revocations w.old)).1 }
     ensures cables { w.new.links.cables ≡ w.old.links.cables }
     ensures hosts { host_count w.new ≡ host_count w.old }

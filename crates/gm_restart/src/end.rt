@@ -134,7 +134,7 @@ impl End {
 
 // The period of these incarnations among those that are over, the latest last. None where there is none.
 fn past_of(past: &[Past], inc: u32, known: u32) -> Option<&Past>
-    ensures there { IfSome result (λ p. period_in (reverse past.now) inc known ≡ p.now) }
+    ensures found { IfSome result (λ p. period_in (reverse past.now) inc known ≡ p.now) }
     ensures absent { IfNone result (period_in (reverse past.now) inc known ≡ new_period inc known) }
 {
     let mut at = past.len();

@@ -12,7 +12,7 @@ use Rattle.world_defs.specs.Acts.{acted_all}
 use Rattle.run_defs.specs.declared.command.Command.TheVariants.{Install}
 use Rattle.run_defs.specs.declared.line.Line.TheVariants.{Installed, InstallRefused}
 use Rattle.run_defs.specs.declared.line.InstallCause.{InstallCause}
-use Rattle.run_defs.specs.declared.line.InstallCause.TheVariants.{NoRoutes, Busy, Changed}
+use Rattle.run_defs.specs.declared.line.InstallCause.TheVariants.{Busy, Changed}
 use Rattle.run_defs.specs.Output.{OneLine, lines}
 use Rattle.run_defs.specs.Deed.{Deed, says, session_after}
 use Rattle.run_defs.specs.Outcome.{set_of, adopt_cause, installation, may_install, refusal_cause, install, install_now, table_line}
@@ -36,9 +36,6 @@ refused w last tries cause p is e = record {
   printed = e ∙ sym (ap (λ (d : Deed). printed_of (fabric_of w) d.output) is);
   left = ap (λ (d : Deed). acted_all w d.acts) (sym is);
 }
-
-pub none_told : (w : WorldState) (tries : ℕ) (p : PrintedState) → p ≡ printed_of (fabric_of w) (OneLine (InstallRefused NoRoutes) ∷ []) → IsInstallTold w None tries w p
-none_told w tries p e = refused w None tries NoRoutes p refl e
 
 -- what comes of last routes, by whether a channel holds a packet, whether they may be installed, and why not
 abbrev pub choice : WorldState → LastRoutes → ℕ → Bool → Bool → InstallCause → Deed

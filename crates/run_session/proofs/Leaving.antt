@@ -40,10 +40,6 @@ none-unrefused s c v none r =
     let printed : [] ≡ OneLine r.line ∷ [] = ap output-of (sym none ∙ r.prints) in
     cc
 
--- only the line's text is missing
-pub line-missing : (s : SessionState) (c : Command) (v : WorldState) (o : Outcome) → outcome s c ≡ Some o → v ≡ o.after.world → HidesNoRefusal s c v InLine
-line-missing s c v o is same = (o, is, same)
-
 -- a command of one event at most
 pub one-unrefused : (w v : WorldState) (made : Option LastMap) (found : Option LastRoutes) (c : Command) (e : OutOfMemory) → IsLeft c w v e → HidesNoRefusal (session_of w made found) c v e
 one-unrefused w v made found c InDoing (undone same kept) = kept made found

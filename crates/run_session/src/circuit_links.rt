@@ -19,7 +19,7 @@ pub(crate) fn circuit(
     depth: u8,
     printed: &mut Printed,
 ) -> Result<(), OutOfMemory>
-    requires there { IsHost (fabric_of w.now) host }
+    requires host { IsHost (fabric_of w.now) host }
     requires shallow { depth ≤ 32 }
     ensures printed { OnOk result (IsCircuitPrinted (fabric_of w.now) host depth printed.new) }
     ensures doing { IfErr result (λ e. e ≡ OutOfMemory.InDoing) }

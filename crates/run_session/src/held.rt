@@ -185,7 +185,7 @@ fn duo_text(
     e: DuoEvent,
     printed: &mut Printed,
 ) -> Result<(), OutOfMemory>
-    requires there { slot.now ≡ Some (world_in slot.now) }
+    requires world { slot.now ≡ Some (world_in slot.now) }
     requires event { IsDuoOf e }
     ensures done { OnOk result (IsDuoDone (fabric_of (world_in slot.now)) e hosts.old hosts.new printed.new) }
     ensures err { OnErr result (IsDuoCut e hosts.old hosts.new) }
@@ -210,12 +210,12 @@ fn obey_parts(
     c: &Command,
     printed: &mut Printed,
 ) -> Result<(), OutOfMemory>
-    requires there { slot.old ≡ Some (world_in slot.old) }
+    requires world { slot.old ≡ Some (world_in slot.old) }
     requires kept { IsKept (session_of (world_in slot.old) last_map.old last_routes.old) }
     requires links { AreWalkLinks (world_in slot.old).links.cables links.old }
     requires command { IsCommandOf (fabric_of (world_in slot.old)) c.now }
     requires other { IsOther c.now }
-    ensures there { slot.new ≡ Some (world_in slot.new) }
+    ensures world { slot.new ≡ Some (world_in slot.new) }
     ensures kept { IsKept (session_of (world_in slot.new) last_map.new last_routes.new) }
     ensures links { AreWalkLinks (world_in slot.new).links.cables links.new }
     ensures obeyed { OnOk result (IsObeyed (session_of (world_in slot.old) last_map.old last_routes.old) c.now
@@ -257,11 +257,11 @@ fn map_slot(
     order: MapOrder,
     printed: &mut Printed,
 ) -> Result<(), OutOfMemory>
-    requires there { slot.old ≡ Some (world_in slot.old) }
+    requires world { slot.old ≡ Some (world_in slot.old) }
     requires idle { is_idle (world_in slot.old).links ≡ true }
     requires order { IsCommandOf (fabric_of (world_in slot.old)) (map_of order) }
     requires kept { IsLastMap (world_in slot.old).links.cables last_map.old }
-    ensures there { slot.new ≡ Some (world_in slot.new) }
+    ensures world { slot.new ≡ Some (world_in slot.new) }
     ensures obeyed { OnOk result ((found : Option LastRoutes)
         → IsObeyed (session_of (world_in slot.old) last_map.old found) (map_of order)
         (session_of (world_in slot.new) last_map.new found) printed.new) }

@@ -37,7 +37,7 @@ pub(crate) fn install_text(
 ) -> Result<(), OutOfMemory>
     requires kept { AreLastRoutes w.old.links.cables last.now }
     requires some { 1 ≤ tries }
-    requires few { tries ≤ 8 }
+    requires tries { tries ≤ 8 }
     ensures told { OnOk result (IsInstallTold w.old last.now tries w.new printed.new) }
     ensures err { OnErr result (IsPartActed w.old (install_deed w.old tries last.now).acts w.new) }
     ensures unrefused { IfErr result (λ e. (made : Option LastMap)
@@ -61,7 +61,7 @@ fn install_last(
 ) -> Result<(), OutOfMemory>
     requires kept { WereKeptRoutes w.old.links.cables l.now }
     requires some { 1 ≤ tries }
-    requires few { tries ≤ 8 }
+    requires tries { tries ≤ 8 }
     ensures told { OnOk result (IsInstallTold w.old (Some l.now) tries w.new printed.new) }
     ensures err { OnErr result (IsPartActed w.old (install_deed w.old tries (Some l.now)).acts w.new) }
     ensures unrefused { IfErr result (λ e. (made : Option LastMap)
@@ -86,7 +86,7 @@ fn install_idle(
     requires idle { is_idle w.old.links ≡ true }
     requires kept { WereKeptRoutes w.old.links.cables l.now }
     requires some { 1 ≤ tries }
-    requires few { tries ≤ 8 }
+    requires tries { tries ≤ 8 }
     ensures told { OnOk result (IsInstallTold w.old (Some l.now) tries w.new printed.new) }
     ensures err { OnErr result (IsPartActed w.old (install_deed w.old tries (Some l.now)).acts w.new) }
     ensures unrefused { IfErr result (λ e. (made : Option LastMap)
@@ -136,7 +136,7 @@ fn install_adoptable(
     requires may { may_install w.old l.now ≡ true }
     requires kept { WereKeptRoutes w.old.links.cables l.now }
     requires some { 1 ≤ tries }
-    requires few { tries ≤ 8 }
+    requires tries { tries ≤ 8 }
     ensures told { OnOk result (IsInstallTold w.old (Some l.now) tries w.new printed.new) }
     ensures err { OnErr result (IsPartActed w.old (install_deed w.old tries (Some l.now)).acts w.new) }
     ensures doing { IfErr result (λ e. e ≡ OutOfMemory.InDoing) }

@@ -153,7 +153,7 @@ fn keep_map(
     last_map: &mut Option<LastMade>,
     printed: &mut Printed,
 ) -> Result<(), OutOfMemory>
-    requires there { IsHost (fabric_of w.now) host }
+    requires host { IsHost (fabric_of w.now) host }
     requires hosts { AreOfFabric (fabric_of w.now) mapping.made.map }
     requires past { mapping.began ≤ w.now.links.cables.changes }
     requires right { mapping.made.words ≡ Complete

@@ -28,4 +28,4 @@ returns c =
     let all = giving-all c.args.w.now c.loop-host.w c.loop-host.host c.loop-host.revoked c.loop-host.invariant past in
     let g = c.loop-host.invariant in
     let few : c.loop-host.revoked ≤ host_count c.args.w.now = omega (arith, g.few, c.loop-host.auto.host-end, c.hosts-host-end.ensures) in
-    record { count = ap Ok all.count; few = few; after = all.world; cables = g.cables; hosts = g.hosts; adopted = g.adopted }
+    record { count = ap Ok all.count; at_most_hosts = few; after = all.world; cables = g.cables; hosts = g.hosts; adopted = g.adopted }

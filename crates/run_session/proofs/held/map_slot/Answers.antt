@@ -11,15 +11,15 @@ use Rattle.run_session.proofs.held.map_slot.Goals as goal
 
 pub map-world-requires-clause-kept : goal.map-world-requires-clause-kept
 map-world-requires-clause-kept c =
-    let before : world_in c.args.slot.now ≡ c.in-Some.world = cc (c.requires.there) in
+    let before : world_in c.args.slot.now ≡ c.in-Some.world = cc (c.requires.world) in
     subst (λ (w : WorldState). IsLastMap w.links.cables c.args.last_map.now) before c.requires.kept
 
-pub returns-clause-there : goal.returns-clause-there
-returns-clause-there c = c.replace.ensures.after ∙ ap (λ (w : WorldState). Some w) (sym (ap world_in c.replace.ensures.after))
+pub returns-clause-world : goal.returns-clause-world
+returns-clause-world c = c.replace.ensures.after ∙ ap (λ (w : WorldState). Some w) (sym (ap world_in c.replace.ensures.after))
 
 pub returns-clause-obeyed : goal.returns-clause-obeyed
 returns-clause-obeyed c =
-    let before : c.in-Some.world ≡ world_in c.args.slot.now = cc (c.requires.there) in
+    let before : c.in-Some.world ≡ world_in c.args.slot.now = cc (c.requires.world) in
     let after : c.map-world.result.0 ≡ world_in c.replace.new.self = sym (ap world_in c.replace.ensures.after) in
     let made = c.map-world.new.last_map in
     let p = c.map-world.new.printed in
@@ -34,13 +34,13 @@ returns-clause-kept c =
 
 pub returns-clause-cables : goal.returns-clause-cables
 returns-clause-cables c =
-    let before : c.in-Some.world ≡ world_in c.args.slot.now = cc (c.requires.there) in
+    let before : c.in-Some.world ≡ world_in c.args.slot.now = cc (c.requires.world) in
     let after : c.map-world.result.0 ≡ world_in c.replace.new.self = sym (ap world_in c.replace.ensures.after) in
     subst (λ (v : WorldState). GoesOn (world_in c.args.slot.now) v) after (subst (λ (w : WorldState). GoesOn w c.map-world.result.0) before c.map-world.ensures.cables)
 
 pub returns-clause-cut : goal.returns-clause-cut
 returns-clause-cut c =
-    let before : c.in-Some.world ≡ world_in c.args.slot.now = cc (c.requires.there) in
+    let before : c.in-Some.world ≡ world_in c.args.slot.now = cc (c.requires.world) in
     let after : c.map-world.result.0 ≡ world_in c.replace.new.self = sym (ap world_in c.replace.ensures.after) in
     subst (λ (v : WorldState). OnErr c.map-world.result.1 ((found : Option LastRoutes) → IsCutShort (session_of (world_in c.args.slot.now) c.args.last_map.now found) (map_of c.args.order) v)) after
     (subst (λ (w : WorldState). OnErr c.map-world.result.1 ((found : Option LastRoutes) → IsCutShort (session_of w c.args.last_map.now found) (map_of c.args.order) c.map-world.result.0)) before

@@ -13,8 +13,8 @@ use Rattle.run_session.proofs.Cutting.{cut_made, cut_begun}
 use Rattle.run_session.proofs.Obeying.{mapped_so}
 use Rattle.run_session.proofs.mapping.map.Goals as goal
 
-pub keep_map-kept-requires-clause-there : goal.keep_map-kept-requires-clause-there
-keep_map-kept-requires-clause-there c = host-stays c.args.world c.map_world-world.result.0 c.args.order.host c.map_world-world.ensures.cables c.requires.order.0
+pub keep_map-kept-requires-clause-host : goal.keep_map-kept-requires-clause-host
+keep_map-kept-requires-clause-host c = host-stays c.args.world c.map_world-world.result.0 c.args.order.host c.map_world-world.ensures.cables c.requires.order.0
 
 pub keep_map-kept-requires-clause-hosts : goal.keep_map-kept-requires-clause-hosts
 keep_map-kept-requires-clause-hosts c =
