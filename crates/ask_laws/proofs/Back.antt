@@ -59,9 +59,6 @@ turned-back n d e t f there is = by (exit_at n d.v d.p t) refl is
         let home = far-back n x e f g in
         ap (λ o. turned n o (neg_ℤ t)) home ∙ ap (option_and_then (far n)) (exit-back n d.v d.p t x there p)
 
-port-there : (n : Network) (d : End) (t : ℤ) (o : Option End) → IsFabric n → IsEntered n (turned n (Some d) t) → turned n (Some d) t ≡ o → IsEntered n o
-port-there n d t o f is e = subst (IsEntered n) e is
-
 -- a walk that enters an end is walked back to where it began
 pub walked-back : (n : Network) (d e : End) (walk : List ℤ) → IsFabric n → has_port n d ≡ true → entered_after n (Some d) walk ≡ Some e → entered_after n (far n e) (way_back walk) ≡ far n d
 walked-back n d e [] f there is = let same : d ≡ e = cc in ap (far n) (sym same)

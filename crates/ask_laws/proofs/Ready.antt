@@ -1,5 +1,5 @@
 -- Between the sends of an ask: idle links, and nothing staged but at the mapper.
-use Rattle.std.proofs.Common.{◌≡◌, ◌≢◌, ◌<◌, ◌+◌, ℕ, Bool, true, false, ◌||◌, nat_eq, ℤ, List, [], ◌∷◌, map, length, get_or, set, Some, None, is_some, refl, sym, ap, ◌∙◌, subst, arith, true≢false, if◌then◌else◌}
+use Rattle.std.proofs.Common.{◌≡◌, ◌≢◌, ◌<◌, ℕ, Bool, true, false, ◌||◌, nat_eq, ℤ, List, [], ◌∷◌, map, length, get_or, set, Some, None, is_some, refl, sym, ap, ◌∙◌, subst, arith, true≢false, if◌then◌else◌}
 use Rattle.std.proofs.Math.ListN.{length-set}
 use Rattle.std.proofs.lemmas.List.{get_or-set_same, get_or-set_other}
 use Rattle.std.proofs.lemmas.Bool.Decides.{Decides-eqb}
@@ -185,9 +185,6 @@ all-unstaged w h = all-so (λ (n : NodeState). n.staged ≡ None) (record { give
 
 pub kept-start : (w : WorldState) → IsAskKept w (all_given_up w)
 kept-start w = all-kept w (addresses w)
-
-pub counts-start : (w : WorldState) → ((all_given_up w).injected ≡ w.injected) × ((all_given_up w).plan ≡ w.plan)
-counts-start w = let a = all-aside w (addresses w) in (a.injected, a.plan)
 
 pub ready-start : (made : ℕ) (w : WorldState) (mapper : ℕ) (walk : List ℤ) → CanAsk made w mapper walk → Ready (fabric_at w.links.cables made) made mapper (all_given_up w)
 ready-start made w mapper walk can =

@@ -139,9 +139,6 @@ new-way n old x [] z way = absurd way
 new-way n old x (s ∷ []) z way = (way.0, way.1, way.2)
 new-way n old x (s ∷ t ∷ ss) z way = (way.0, way.1, new-way n (s.cable ∷ old) s.into.v (t ∷ ss) z way.3)
 
-pub more-touched : (n : Network) (gs ks : List ℕ) (x : Vertex) → ((k : ℕ) → IsOneOf k ks → IsOneOf k gs) → IsTouched n ks x → IsTouched n gs x
-more-touched n gs ks x some t = record { cable = t.cable; from = t.from; to = t.to; one_of = some t.cable t.one_of; joins = t.joins; there = t.there }
-
 -- a way, cut where a cable ends
 pub record Split (n : Network) (y x z : Vertex) (ss : List Step) : Type 0 where
   pub first : List Step

@@ -1,5 +1,5 @@
 -- A sheet: a node for each vertex, such that the tree leads over each of some cables between replicates of these nodes.
-use Rattle.std.proofs.Common.{◌≡◌, ◌≢◌, ℕ, List, [], ◌∷◌, ◌++◌, Bool, true, false, Some, sym, ◌∙◌, subst, ap, refl, inl, inr, if◌then◌else◌}
+use Rattle.std.proofs.Common.{◌≡◌, ◌≢◌, ℕ, List, [], ◌∷◌, ◌++◌, Bool, true, false, Some, sym, ◌∙◌, subst, refl, inl, inr, if◌then◌else◌}
 use Rattle.std.specs.Prelude.{pos}
 use Rattle.std.specs.List.{AllByRecursion}
 use Rattle.net_defs.specs.declared.vertex.Vertex.{Vertex}
@@ -13,7 +13,7 @@ use Rattle.journal_defs.specs.Tree.{Node, IsNode}
 use Rattle.journal_defs.specs.Tree.Node.{Mapper}
 use Rattle.journal_defs.specs.Replicates.Replicates.{same}
 use Rattle.journal_defs.specs.Truth.{IsTrueWhereFound, standing}
-use Rattle.journal_defs.proofs.Standing.{stand, same_end-of, leads-to, leads-from, replicates-nodes}
+use Rattle.journal_defs.proofs.Standing.{leads-to, leads-from}
 use Rattle.map_laws.proofs.Full.{AreOne, join, flip}
 use Rattle.circ_laws.proofs.Lifts.{Crossed, Lift, crossed-back, lift-parts, one-host, over-one}
 use Rattle.circ_defs.specs.Ways.{AreAmong, IsNewWay, IsOneOf, IsTouched, IsWay, Joins, Step, cables_on}
@@ -66,19 +66,6 @@ pub record StandsAt (n : Network) (host : ℕ) (j : List Entry) (u : Node) (x : 
   pub at : End
   pub stands : standing n host u ≡ Some at
   pub there : at.v ≡ x
-
-pub touched-stands : (n : Network) (host : ℕ) (j : List Entry) (gs : List ℕ) (at : Vertex → Node) (x : Vertex) → IsFabric n → IsTrueWhereFound n host j → IsSheet n host j gs at → IsTouched n gs x → StandsAt n host j (at x) x
-touched-stands n host j gs at x f all sheet t =
-    let s = sheet.over t.cable t.from t.to t.one_of t.joins in
-    let p = stand n host j s.from (at t.from.v) s.one_from.offset f all s.one_from.one_class in
-    let own : p.at_u ≡ s.crossed.at_from = same_end-of n host s.from p.at_u s.crossed.at_from p.is_at_u s.crossed.from_stands in
-    let here : StandsAt n host j (at t.from.v) t.from.v = record {
-      is_node = (replicates-nodes host j s.from (at t.from.v) s.one_from.offset s.one_from.one_class).1;
-      at = p.at_v;
-      stands = p.is_at_v;
-      there = sym p.one_vertex ∙ ap (λ (y : End). y.v) own ∙ s.crossed.from_there;
-    } in
-    subst (λ y. StandsAt n host j (at y) y) t.there here
 
 -- a node for one vertex more
 abbrev pub with_node : (Vertex → Node) → Vertex → Node → Vertex → Node

@@ -81,10 +81,6 @@ one-there : (wanted_from lost_world 1 1 4 0 0 ≡ 1) × (provided_at lost_world 
 unfolding to_send packet_for after_sending hear begun provided_by sent_by lost planned_strikes sent_out injected advanced
 one-there = (refl, refl)
 
-not-both : (a b : Bool) → b ≡ false → (a && b) ≡ false
-not-both true b e = e
-not-both false b e = refl
-
 not-first : (a b : Bool) → a ≡ false → (a && b) ≡ false
 not-first true b e = absurd (true≢false e)
 not-first false b e = refl

@@ -28,11 +28,6 @@ sides d (suc k) g = record { mine = g.ends (suc k); theirs = g.ends 0; out = g.f
 ended : (d : DuoState) (x : ℕ) (o : DuoEffect × EndState) → IsGood d → Keeps (end_at d x) (end_at d (other x)) o → IsGood (at_end d x o).1
 ended d x o g c = changed d x o.1 g c
 
--- the peer of the peer is an end itself
-peer : (d : DuoState) (x : ℕ) → x < 2 → end_at d (other (other x)) ≡ end_at d x
-peer d zero h = refl
-peer d (suc k) h = refl
-
 honest-from : (f : ℕ → EndState) (e : EndState) (x : ℕ) (p : Packet) → f x ≡ e → IsFrom e x p → IsHonest f p
 honest-from f e x (Hello src inc knows) same h =
     let i = h.1 in

@@ -15,11 +15,11 @@ use Rattle.net_defs.specs.Building.{cable_refusal, is_used}
 use Rattle.net_defs.proofs.Ends.{both, same_end-true, same_end-refl}
 use Rattle.net_defs.proofs.Growing.{cable-free}
 use Rattle.world_defs.specs.declared.wire.Wire.{Wire}
-use Rattle.world_defs.specs.History.{CableHistory, IsHistory, fabric_now, is_in_place, pulled_by, with_plugged, with_accepted, may_plug, dates_of, dates_in}
+use Rattle.world_defs.specs.History.{CableHistory, IsHistory, fabric_now, is_in_place, pulled_by, with_plugged, may_plug, dates_of, dates_in}
 use Rattle.world_defs.specs.Crossed.{channel_by, leaving, life_tail, is_standing, life_channels}
 use Rattle.world_defs.proofs.Fewer.{none-far, some-far}
 use Rattle.world_defs.proofs.ForLife.{leaving_has_its_end, standing_leaves, ends_are_for_life}
-use Rattle.world_defs.proofs.CablesKept.{pull_keeps, plug_keeps, accept_keeps, standing-wire}
+use Rattle.world_defs.proofs.CablesKept.{pull_keeps, plug_keeps, standing-wire}
 use Rattle.world_defs.proofs.Now.{now_is_fabric}
 use Rattle.world_defs.proofs.There.{ends_are_there, none-leaves}
 use Rattle.port_graph.specs.Table.{is_possible, place_of_end}
@@ -286,21 +286,6 @@ plug-ends h a b may =
     let free = cable-free (fabric_now h) a b (no-refusal (cable_refusal (fabric_now h) a b) (both (is_none (cable_refusal (fabric_now h) a b)) _ may).0) in
     (free.has_a, free.has_b)
 
--- and between no others
-pub no-first : (h : CableHistory) (a b : End) → has_port (fabric_now h) a ≡ false → may_plug h a b ≡ false
-no-first h a b gone = by (may_plug h a b) refl
-  where
-    by : (t : Bool) → may_plug h a b ≡ t → t ≡ false
-    by true e = absurd (true≢false (sym (plug-ends h a b e).0 ∙ gone))
-    by false e = refl
-
-pub no-second : (h : CableHistory) (a b : End) → has_port (fabric_now h) b ≡ false → may_plug h a b ≡ false
-no-second h a b gone = by (may_plug h a b) refl
-  where
-    by : (t : Bool) → may_plug h a b ≡ t → t ≡ false
-    by true e = absurd (true≢false (sym (plug-ends h a b e).1 ∙ gone))
-    by false e = refl
-
 vertex-there : (h : CableHistory) (v : Vertex) (p : ℕ) → has_port (fabric_now h) (record { v = v; p = p }) ≡ true → has_vertex (fabric_now h) v ≡ true
 vertex-there h (Host a) p there = by (nat_lt a (length h.hosts)) there
   where
@@ -331,15 +316,6 @@ may-plug-is h a b pa pb =
     by false = refl
 
 -- ---- acceptance, and the count of changes
-pub accepted-wiring : (h : CableHistory) (hosts : ℕ) (ports : List ℕ) (entries : List Entry) (out hops : List (Option ℕ)) → IsWiring h hosts ports entries out hops → IsWiring (with_accepted h) hosts ports entries out hops
-accepted-wiring h hosts ports entries out hops wired = record {
-  history = accept_keeps h wired.history;
-  same_hosts = wired.same_hosts;
-  same_ports = wired.same_ports;
-  entered = wired.entered;
-  leaving = wired.leaving;
-  hopping = wired.hopping;
-}
 
 two-dates : (w : Wire) → dates_of w ≤ 2
 two-dates w = by (nat_lt 0 w.plugged) (is_in_place w)

@@ -3,7 +3,7 @@ use Rattle.std.proofs.Common.{◌≡◌, ◌≢◌, ◌<◌, ◌+◌, ◌*◌, �
 use Rattle.std.specs.List.{slice_get, AllByRecursion}
 use Rattle.std.specs.Option.{option_map, option_map_or, IfSome}
 use Rattle.std.proofs.lemmas.Bool.Decides.{nat_tests}
-use Rattle.std.proofs.lemmas.List.{map-append, length-replicate, replicate-append-replicate, get_or-set_same, get_or-set_other}
+use Rattle.std.proofs.lemmas.List.{map-append, length-replicate, get_or-set_same, get_or-set_other}
 use Rattle.std.proofs.Math.ListN.{length-set}
 use Rattle.net_defs.specs.declared.vertex.End.{End}
 use Rattle.net_defs.specs.declared.vertex.Cable.{Cable}
@@ -33,9 +33,6 @@ pub ends_got : (P : End → Type 0) (cs : List Cable) (k : ℕ) (c : Cable) → 
 ends_got P [] k c all is = cc
 ends_got P (d ∷ cs) zero c all is = let same : d ≡ c = cc in subst (λ x. P x.a × P x.b) same (all.0, all.1.0)
 ends_got P (d ∷ cs) (suc k) c all is = ends_got P cs k c all.1.1 is
-
-pub cable_ports : (n : Network) (k : ℕ) (c : Cable) → IsFabric n → slice_get n.cables k ≡ Some c → (has_port n c.a ≡ true) × (has_port n c.b ≡ true)
-cable_ports n k c f is = ends_got (λ e. has_port n e ≡ true) n.cables k c f.cabled_ports is
 
 pub all_possible : (n : Network) → IsFabric n → AllByRecursion (λ e. is_possible e ≡ true) (ends_of n.cables)
 all_possible n f = all-weaker (λ e. has_port n e ≡ true) (λ e. is_possible e ≡ true) (ends_of n.cables) (λ e h. has_port-possible n e f h) f.cabled_ports
@@ -260,10 +257,6 @@ leaving-below h e = by (leaving h e) refl
     by : (o : Option ℕ) → leaving h e ≡ o → IfSome o (λ c. c < life_channels h)
     by None is = tt
     by (Some c) is = (leaving_has_its_end h e c is).there
-
--- one more of the same
-pub nones-next : {X : Type 0} (n : ℕ) (x : X) → replicate n x ++ x ∷ [] ≡ replicate (n + 1) x
-nones-next n x = replicate-append-replicate n 1 x
 
 -- the tables of a fabric, before any change
 pub first-wiring : (n : Network) (hosts : ℕ) (ports : List ℕ) (wires : List Wire) (entries : List Entry) (out hops : List (Option ℕ)) → IsFabric n → hosts ≡ length n.hosts → ports ≡ map (λ s. s.ports) n.switches → wires ≡ map first_wire n.cables

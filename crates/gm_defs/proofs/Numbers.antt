@@ -268,16 +268,6 @@ below-up (m ∷ ms) n k low = by (nat_le (piece_count (length m.body)) n) (nat_l
         absurd (omega (arith, here, past, low))
     by false b e f rest = omega arith
 
--- of more messages more lie below it
-pub below-more : (ms more : List Message) (n : ℕ) → whole_below ms n ≤ whole_below (ms ++ more) n
-below-more [] more n = omega arith
-below-more (m ∷ ms) more n = by (nat_le (piece_count (length m.body)) n) (below-more ms more (n - piece_count (length m.body)))
-  where
-    by : (a : Bool) → whole_below ms (n - piece_count (length m.body)) ≤ whole_below (ms ++ more) (n - piece_count (length m.body))
-        → (if a then 1 + whole_below ms (n - piece_count (length m.body)) else 0) ≤ (if a then 1 + whole_below (ms ++ more) (n - piece_count (length m.body)) else 0)
-    by true rest = omega (arith, rest)
-    by false rest = omega arith
-
 -- and no more than there are
 pub below-few : (ms : List Message) (n : ℕ) → whole_below ms n ≤ length ms
 below-few [] n = omega arith

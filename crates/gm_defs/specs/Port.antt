@@ -22,11 +22,6 @@ abbrev pub with_send : Sending → List Sending → List Sending
 with_send s [] = s ∷ []
 with_send s (x ∷ xs) = if nat_lt s.token x.token then s ∷ x ∷ xs else x ∷ with_send s xs
 
--- sends by the rising numbers of their tokens
-abbrev pub by_token : List Sending → List Sending
-by_token [] = []
-by_token (s ∷ ss) = with_send s (by_token ss)
-
 -- a message of this length is longer than one may be
 abbrev pub is_too_long : ℕ → Bool
 is_too_long len = nat_lt message_limit len

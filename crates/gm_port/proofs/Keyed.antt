@@ -136,9 +136,6 @@ module _ (slots : Slab ℕ) (keys : List (Option ℕ)) (held : List Place) (a : 
   keyed-by n None at = refl
   keyed-by n (Some k) at = sent-under n k at
 
-  pub keyed : (n : ℕ) → is_held (slice_get (by_ticket keys held) n) ≡ is_some (get_or keys n None)
-  keyed n = held-at (by_ticket keys held) n ∙ ap is_some (place-of keys held n) ∙ keyed-by n (get_or keys n None) refl
-
   -- as many slots as places with a send
   pub count-places : slab_len slots ≡ count_by is_some (by_ticket keys held)
   count-places = a.count ∙ by keys (λ n. keyed-by n (get_or keys n None) refl)

@@ -61,14 +61,6 @@ module _ {A : Type 0} (test : A → Bool) where
   all-at P (y ∷ xs) zero x all e = let same : y ≡ x = cc in subst P same all.0
   all-at P (y ∷ xs) (suc i) x all e = all-at P xs i x all.1 e
 
-  pub all-rest : (P : A → Type 0) (xs : List A) → AllByRecursion P xs → AllByRecursion P (without_first test xs)
-  all-rest P [] all = tt
-  all-rest P (x ∷ xs) all = by (test x) refl (all-rest P xs all.1)
-    where
-      by : (b : Bool) → test x ≡ b → AllByRecursion P (without_first test xs) → AllByRecursion P (without_first test (x ∷ xs))
-      by true t r = rw t all.1
-      by false t r = rw t (all.0, r)
-
 module _ {A B : Type 0} (f : A → B) (test : B → Bool) where
   pub find-map : (xs : List A) → find test (map f xs) ≡ option_map f (find (λ x. test (f x)) xs)
   find-map [] = refl

@@ -11,28 +11,12 @@ use Rattle.duo_defs.specs.Step.{at_end, arrive}
 use Rattle.gm_restart.specs.Calls.{is_quiet}
 use Rattle.gm_restart.specs.Whole.{emitted}
 
--- the first end, or the second, has emitted so
-abbrev pub first_after : DuoState → DuoEffect × (List Packet × EndState) → DuoEffect × DuoState
-first_after d r = (r.0, record d { first = r.1.1; medium = r.1.0 })
-
 abbrev pub second_after : DuoState → DuoEffect × (List Packet × EndState) → DuoEffect × DuoState
 second_after d r = (r.0, record d { second = r.1.1; medium = r.1.0 })
-
-put-first : (d : DuoState) (o : Option (Packet × EndState)) → put d 0 o ≡ first_after d (emitted d.medium d.first o)
-put-first d None = refl
-put-first d (Some o) = refl
 
 put-second : (d : DuoState) (o : Option (Packet × EndState)) → put d 1 o ≡ second_after d (emitted d.medium d.second o)
 put-second d None = refl
 put-second d (Some o) = refl
-
-pub emits-first : {X : Type 0} (d later : DuoState) (ps : List Packet) (e : EndState) (host x : ℕ) (r : Result DuoEffect X) → host ≡ 0 → x ≡ 0
-    → IfOk r (λ k. emitted d.medium d.first (emission host d.first) ≡ (k, (ps, e))) → later ≡ record d { first = e; medium = ps } → IfOk r (λ k. emit d x ≡ (k, later))
-emits-first d later ps e host x (Ok k) at side ok so =
-    let here : emitted d.medium d.first (emission 0 d.first) ≡ (k, (ps, e)) = subst (λ h. emitted d.medium d.first (emission h d.first) ≡ (k, (ps, e))) at ok in
-    let made : emit d 0 ≡ (k, record d { first = e; medium = ps }) = put-first d (emission 0 d.first) ∙ ap (first_after d) here in
-    subst (λ y. emit d y ≡ (k, later)) (sym side) (made ∙ ap (λ l. (k, l)) (sym so))
-emits-first d later ps e host x (Err w) at side ok so = tt
 
 pub emits-second : {X : Type 0} (d later : DuoState) (ps : List Packet) (e : EndState) (host x : ℕ) (r : Result DuoEffect X) → host ≡ 1 → x ≡ 1
     → IfOk r (λ k. emitted d.medium d.second (emission host d.second) ≡ (k, (ps, e))) → later ≡ record d { second = e; medium = ps } → IfOk r (λ k. emit d x ≡ (k, later))
@@ -46,14 +30,6 @@ emits-second d later ps e host x (Err w) at side ok so = tt
 loud : (d : DuoState) (x : ℕ) (o : Option (Packet × EndState)) → is_some o ≡ true → is_quiet (put d x o).0 ≡ false
 loud d x None e = absurd (true≢false (sym e))
 loud d x (Some o) e = refl
-
-pub loud-first : {X : Type 0} (d : DuoState) (host x : ℕ) (r : Result DuoEffect X) → host ≡ 0 → x ≡ 0 → OnErr r (is_some (emission host d.first) ≡ true) → OnErr r (is_quiet (emit d x).0 ≡ false)
-loud-first d host x (Ok k) at side e = tt
-loud-first d host x (Err w) at side e = subst (λ y. is_quiet (emit d y).0 ≡ false) (sym side) (loud d 0 (emission 0 d.first) (subst (λ h. is_some (emission h d.first) ≡ true) at e))
-
-pub loud-second : {X : Type 0} (d : DuoState) (host x : ℕ) (r : Result DuoEffect X) → host ≡ 1 → x ≡ 1 → OnErr r (is_some (emission host d.second) ≡ true) → OnErr r (is_quiet (emit d x).0 ≡ false)
-loud-second d host x (Ok k) at side e = tt
-loud-second d host x (Err w) at side e = subst (λ y. is_quiet (emit d y).0 ≡ false) (sym side) (loud d 1 (emission 1 d.second) (subst (λ h. is_some (emission h d.second) ≡ true) at e))
 
 pub second-side : (x : ℕ) → x < 2 → (x ≡ 0 → ⊥) → x ≡ 1
 second-side zero low other = absurd (other refl)

@@ -1,5 +1,5 @@
 -- What a client's calls do, by whether it holds a token.
-use Rattle.std.proofs.Common.{◌≡◌, ◌≤◌, ◌+◌, ◌%◌, ℕ, Bool, true, false, List, [], ◌∷◌, length, take, Option, Some, None, refl, sym, ap, ◌∙◌, subst, arith, if◌then◌else◌}
+use Rattle.std.proofs.Common.{◌≡◌, ◌≤◌, ◌+◌, ◌%◌, ℕ, Bool, true, false, List, [], length, take, Option, Some, None, refl, sym, ap, ◌∙◌, subst, arith, if◌then◌else◌}
 use Rattle.std.specs.Prelude.{drop, slice_get, nat_lt, reverse}
 use Rattle.std.specs.List.{range_with_len}
 use Rattle.std.proofs.lemmas.List.{length-map, take_all}
@@ -10,41 +10,20 @@ use Rattle.gm_defs.specs.Body.{piece, message_limit}
 use Rattle.gm_defs.specs.Fragment.{piece_count}
 use Rattle.gm_defs.specs.Connection.{is_spent}
 use Rattle.gm_defs.specs.Token.{PortState}
-use Rattle.gm_defs.specs.Port.{is_bad_size, sent_with}
+use Rattle.gm_defs.specs.Port.{sent_with}
 use Rattle.gm_port.specs.Refusal.{send_refusal as port_refusal}
 use Rattle.world_defs.specs.Client.{ClientState, client_bytes}
-use Rattle.duo_defs.specs.declared.effect.DuoEffect.{DuoEffect}
-use Rattle.duo_defs.specs.declared.effect.DuoEffect.TheVariants.{Token, Refused}
 use Rattle.duo_defs.specs.declared.effect.DuoCause.{DuoCause}
-use Rattle.duo_defs.specs.declared.effect.DuoCause.TheVariants.{NoToken, TooLong, Spent, BadSize}
+use Rattle.duo_defs.specs.declared.effect.DuoCause.TheVariants.{TooLong, Spent}
 use Rattle.world_defs.specs.Lane.{LaneState, Ticket, with_message}
 use Rattle.gm_conn.specs.Lane.{HostLane, in_state as lane_in}
 use Rattle.port_client.specs.Serving.{ServedPort, send_used}
 use Rattle.duo_defs.specs.Duo.{Period, Returned, EndState, plain_message}
-use Rattle.duo_defs.specs.Step.{accepted, sending, with_buffer, providing}
+use Rattle.duo_defs.specs.Step.{accepted}
 use Rattle.gm_restart.specs.Calls.{send_refusal}
 use Rattle.gm_restart.specs.End.{HostEnd, period_of, end_of, in_state}
 
 -- ---- a message
-
--- what is done with the message of a token, by why it is refused
-abbrev pub send_unless : EndState → ℕ → List ℕ → List ℕ → Option DuoCause → DuoEffect × EndState
-send_unless e t ts bytes None = (Token t, accepted e t ts bytes)
-send_unless e t ts bytes (Some cause) = (Refused cause, e)
-
-pub sending-none : (e : EndState) (len seed : ℕ) (ts : List ℕ) → slice_get ts 0 ≡ None → sending e len seed ts ≡ (Refused NoToken, e)
-sending-none e len seed [] f = refl
-sending-none e len seed (t ∷ ts) f = absurd (none-some t (sym f))
-
-pub sending-some : (e : EndState) (len seed t : ℕ) (ts : List ℕ) → slice_get ts 0 ≡ Some t → sending e len seed ts ≡ send_unless e t (drop 1 ts) (client_bytes len seed) (send_refusal e len)
-sending-some e len seed t [] f = absurd (none-some t f)
-sending-some e len seed t (u ∷ ts) f = by (nat_lt piece len) (is_spent e.present.lane.sender (piece_count len)) ∙ ap (λ k. send_unless e k ts (client_bytes len seed) (send_refusal e len)) (same_Some u t f)
-  where
-    by : (a b : Bool) → (if a then (Refused TooLong, e) else if b then (Refused Spent, e) else (Token u, accepted e u ts (client_bytes len seed)))
-        ≡ send_unless e u ts (client_bytes len seed) (if a then Some TooLong else if b then Some Spent else None)
-    by true b = refl
-    by false true = refl
-    by false false = refl
 
 pub bytes-counted : (len seed : ℕ) → length (client_bytes len seed) ≡ len
 bytes-counted len seed = length-map (range_with_len 0 len) (λ i. (seed + i) % 256) ∙ length-range_with_len 0 len
@@ -93,11 +72,3 @@ accepted-so host inc known lane after past owes returned held later token number
     subst (λ (x : HostEnd). end_of host inc known after past owes returned later ≡ in_state x (accepted x.state token (drop 1 x.state.client.sends) text)) is whole
 
 -- ---- a buffer
-
-pub providing-none : (e : EndState) (size : ℕ) (ts : List ℕ) → slice_get ts 0 ≡ None → providing e size ts ≡ (Refused NoToken, e)
-providing-none e size [] f = refl
-providing-none e size (t ∷ ts) f = absurd (none-some t (sym f))
-
-pub providing-some : (e : EndState) (size t : ℕ) (ts : List ℕ) → slice_get ts 0 ≡ Some t → providing e size ts ≡ (if is_bad_size size 0 then (Refused BadSize, e) else (Token t, with_buffer e t (drop 1 ts) size))
-providing-some e size t [] f = absurd (none-some t f)
-providing-some e size t (u ∷ ts) f = ap (λ k. if is_bad_size size 0 then (Refused BadSize, e) else (Token k, with_buffer e k ts size)) (same_Some u t f)

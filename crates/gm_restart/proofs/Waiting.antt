@@ -1,12 +1,11 @@
 -- The sends that wait at an end: so many of them come back, and the frame that is due is of the message of its number.
-use Rattle.std.proofs.Common.{◌≡◌, ◌≤◌, ℕ, zero, suc, Bool, true, false, nat_eq, List, [], ◌∷◌, length, take, Option, Some, None, option_map, refl, sym, ap, ◌∙◌, subst, arith, true≢false, if◌then◌else◌}
+use Rattle.std.proofs.Common.{◌≡◌, ◌≤◌, ℕ, zero, suc, List, [], ◌∷◌, length, take, Option, Some, None, option_map, refl, sym, ap, ◌∙◌, arith}
 use Rattle.std.specs.Prelude.{slice_get, option_and_then}
 use Rattle.std.proofs.lemmas.Option.{same_Some, none-some}
 use Rattle.gm_defs.specs.declared.message.Message.{Message}
 use Rattle.gm_defs.specs.declared.frame.FrameHead.{FrameHead}
-use Rattle.gm_defs.specs.declared.token.Took.{Took}
 use Rattle.gm_defs.specs.Fragment.{frame_of}
-use Rattle.gm_defs.specs.Connection.{acknowledged, due, took, taken_as}
+use Rattle.gm_defs.specs.Connection.{acknowledged, due}
 use Rattle.gm_defs.specs.Token.{PortState}
 use Rattle.gm_defs.specs.Body.{frame_bytes}
 use Rattle.gm_defs.specs.Port.{finished}
@@ -17,7 +16,6 @@ use Rattle.duo_defs.specs.Duo.{EndState, with_lane}
 use Rattle.duo_defs.specs.Emitting.{sends_on, data_of, frame_emission, due_frame as due_at}
 use Rattle.duo_defs.specs.Theorem.{AreWaiting, IsWaiting}
 use Rattle.duo_laws.proofs.Bodies.{framed, frame-short, whole-short}
-use Rattle.gm_restart.specs.Calls.{is_taken}
 
 -- the first of those that wait
 pub front-waits : (p : PortState) (ts : List Ticket) (n : ℕ) → AreWaiting p ts → AreWaiting p (take n ts)
@@ -73,12 +71,3 @@ frame-emitted host e later h packet bytes d written made after =
     let q : with_lane e (lane_sent_one e.present.lane) ≡ later = sym after in
     let r : ◌≡◌ {A = Option (Packet × EndState)} (Some (data_of host e (frame_bytes h d.message.body), with_lane e (lane_sent_one e.present.lane))) (Some (packet, later)) = λ i. Some (p i, q i) in
     ap (option_map (frame_emission host e)) d.frame ∙ r
-
--- what was taken, a token takes
-pub taken-fits : (taken seq : ℕ) (fits last : Bool) (t : Took) → t ≡ took taken seq fits last → is_taken t ≡ true → fits ≡ true
-taken-fits taken seq fits last t e h = by (nat_eq seq taken) fits (subst (λ k. is_taken k ≡ true) e h)
-  where
-    by : (a b : Bool) → is_taken (if a then if b then taken_as last else Took.NoToken else Took.NotNext) ≡ true → b ≡ true
-    by true true h = refl
-    by true false h = h
-    by false b h = absurd (true≢false (sym h))

@@ -56,7 +56,3 @@ IsRunForm words = form_of words ≡ Some Run
 -- the words ask for the judgement of a report after its text
 abbrev pub IsJudgeForm : List (List ℕ) → Type 0
 IsJudgeForm words = form_of words ≡ Some Judge
-
--- the words ask for the run of the text of so many hosts and this seed
-abbrev pub IsGenForm : List (List ℕ) → ℕ → ℕ → Type 0
-IsGenForm words n seed = form_of words ≡ Some (Gen n seed)

@@ -1,7 +1,6 @@
 -- What a text says: a fabric, and then the commands of its script; or its first fault.
 use Rattle.std.specs.Prelude.{◌≡◌, ℕ, List, [], ◌∷◌, ◌++◌, drop, Result, Ok, Err, codes, decimal}
 use Rattle.net_defs.specs.Network.{Network}
-use Rattle.fab_text.specs.declared.fault.FaultKind.{FaultKind}
 use Rattle.fab_text.specs.Fault.{FirstFault, and_then, kind_word}
 use Rattle.fab_text.specs.Line.{TextLine}
 use Rattle.fab_text.specs.Written.{line_text}
@@ -41,10 +40,6 @@ sound_lines text = sound_of_fabric text ++ sound_behind text (fabric_reading tex
 -- a text is accepted: it says this
 abbrev pub IsAccepted : List ℕ → AcceptedText → Type 0
 IsAccepted text a = reading text ≡ Ok a
-
--- a text is refused: this is the kind of its first fault, in this line
-abbrev pub IsRefused : List ℕ → ℕ → FaultKind → Type 0
-IsRefused text line kind = reading text ≡ Err (record { line = line; kind = kind })
 
 -- the one line of a text that isn't accepted: the line of its first fault, and the fault's kind
 abbrev pub refusal_text : FirstFault → List ℕ

@@ -1,5 +1,5 @@
 -- Part of the way along an ask: the give-ups, the tries of its host probes and of its loopback probes, and within one try.
-use Rattle.std.proofs.Common.{◌≡◌, ℕ, true, false, List, [], map, Option, Some, None, is_some, refl, ◌∙◌, ap, subst}
+use Rattle.std.proofs.Common.{◌≡◌, ℕ, false, List, [], map, Option, Some, None, is_some, refl, ◌∙◌, ap, subst}
 use Rattle.std.specs.Prelude.{ℤ}
 use Rattle.world_defs.specs.declared.event.Event.TheVariants.{Ask, Inject, GiveUp}
 use Rattle.world_defs.specs.World.{WorldState, addresses}
@@ -17,22 +17,6 @@ pub sends-behind : (w u v : WorldState) (h : ℕ) → u ≡ (step w (Inject h)).
 unfolding log.sends
 sends-behind w u v h is p = way-step w (step w (Inject h)).1 v (Inject h) (log.drain (step w (Inject h)).1).events refl (subst (λ x. IsPartWay x (log.drain x).events v) is p)
 
--- an injection, and the drain after it, by their worlds
-pub sends-world : (w u v : WorldState) (h : ℕ) → u ≡ (step w (Inject h)).1 → v ≡ (log.drain u).world → v ≡ (log.sends h w).world
-unfolding log.sends
-sends-world w u v h is led = led ∙ ap (λ x. (log.drain x).world) is
-
-pub sends-effects : (w u : WorldState) (h : ℕ) → u ≡ (step w (Inject h)).1 → (log.drain u).value ≡ (log.sends h w).value.effects
-unfolding log.sends
-sends-effects w u h is = ap (λ x. (log.drain x).value) is
-
--- along the probe of a try of a host probe
-pub host_try-probe : (mapper : ℕ) (walk : List ℤ) (w u v : WorldState) → u ≡ (step w (Ask mapper walk false)).1 → IsPartWay u (log.sends mapper u).events v → IsPartWay w (log.host_try mapper walk w).events v
-unfolding log.host_try
-host_try-probe mapper walk w u v is p =
-    let staged : WorldState = (step w (Ask mapper walk false)).1 in
-    way-step w staged v (Ask mapper walk false) _ refl (way-front staged v (log.sends mapper staged).events _ (subst (λ x. IsPartWay x (log.sends mapper x).events v) is p))
-
 -- along its reply
 pub host_try-reply : (mapper : ℕ) (walk : List ℤ) (h : ℕ) (w u x v : WorldState) → u ≡ (step w (Ask mapper walk false)).1 → Some h ≡ probed_host (log.sends mapper u).value.effects → x ≡ (log.sends mapper u).world → IsPartWay x (log.sends h x).events v
     → IsPartWay w (log.host_try mapper walk w).events v
@@ -47,13 +31,6 @@ host_try-reply mapper walk h w u x v is found led p =
     (way-behind staged probe.world v probe.events (reply (probed_host probe.value.effects)).events (sends-row byte_asks mapper staged).there
     (subst (λ o. IsPartWay probe.world (reply o).events v) here
     (way-front probe.world v (log.sends h probe.world).events _ (subst (λ y. IsPartWay y (log.sends h y).events v) there p))))
-
--- along the probe of a try of a loopback probe
-pub loop_try-probe : (mapper : ℕ) (walk : List ℤ) (w u v : WorldState) → u ≡ (step w (Ask mapper walk true)).1 → IsPartWay u (log.sends mapper u).events v → IsPartWay w (log.loop_try mapper walk w).events v
-unfolding log.loop_try
-loop_try-probe mapper walk w u v is p =
-    let staged : WorldState = (step w (Ask mapper walk true)).1 in
-    way-step w staged v (Ask mapper walk true) _ refl (way-front staged v (log.sends mapper staged).events _ (subst (λ x. IsPartWay x (log.sends mapper x).events v) is p))
 
 -- along the give-ups of an ask
 pub ask-given_up : (made mapper tries : ℕ) (walk : List ℤ) (w v : WorldState) → IsPartWay w (map GiveUp (addresses w)) v → IsPartWay w (log.ask made mapper tries walk w).events v

@@ -100,10 +100,6 @@ module _ (m : NetMap) (is_map : IsMap m) (h : ℕ) (host : host_of_vertex m 0 �
   low : (d e : MapPort) → IsCabled m d e → d.v < length m.vertices
   low d e q = cabled-low m is_map h host connected found numbers ways s d e q
 
-  turned : (d e : MapPort) → IsCabled m d e → IsCabled m e d
-  turned d e (forth k q) = back k q
-  turned d e (back k q) = forth k q
-
   member : (d e : MapPort) → IsCabled m d e → IsMember d (map_ends m.cables)
   member d e q = far-end m.cables d e ((far_is_cabled m d e is_map).1 q)
 

@@ -14,8 +14,8 @@ use Rattle.map_defs.specs.NetMap.{NetMap, MapPort, IsMap, map_far}
 use Rattle.fabric_map.specs.Table.{far_pair}
 use Rattle.fabric_map.proofs.Tables.{far-outside}
 use Rattle.map_sameness.specs.declared.pairing.Image.{Image}
-use Rattle.map_sameness.specs.Pairing.{Pairs, IsPairing, IsMetAt, is_cabled_at, is_stray, Meets, MeetsBelow}
-use Rattle.map_sameness.proofs.Pairs.{grows-itself, grows-along, met-still}
+use Rattle.map_sameness.specs.Pairing.{Pairs, IsMetAt, is_cabled_at, is_stray, Meets, MeetsBelow}
+use Rattle.map_sameness.proofs.Pairs.{grows-along, met-still}
 
 -- a port that a vertex of the fabric doesn't have leads nowhere
 pub far-beyond : (n : Network) (x : Vertex) (p : ℕ) → IsFabric n → ports_of n x ≤ p → far n (record { v = x; p = p }) ≡ None
@@ -30,10 +30,6 @@ far-beyond n x p f past = by (far n (record { v = x; p = p })) refl
       where
         below : nat_lt p (ports_of n x) ≡ true → p < ports_of n x
         below t = grind (arith, nat_tests)
-
--- no port so far
-pub below-none : (n : Network) (m : NetMap) (s : Pairs) (v : ℕ) (i : Image) → IsPairing n m s → MeetsBelow n m s s v i 0
-below-none n m s v i p = record { pairing = p; grows = grows-itself s; met = λ k l. absurd (omega (arith, l)) }
 
 -- one port more
 pub below-next : (n : Network) (m : NetMap) (s t u : Pairs) (v : ℕ) (i : Image) (k : ℕ) → MeetsBelow n m s t v i k → Meets n m t u v i k → MeetsBelow n m s u v i (k + 1)

@@ -21,9 +21,9 @@ use Rattle.map_defs.specs.Sameness.{IsMapOfPart, Joined, address_of}
 use Rattle.map_defs.proofs.Ports.{far_is_cabled}
 use Rattle.map_sameness.specs.declared.pairing.Image.{Image}
 use Rattle.map_sameness.specs.Standing.Stands.{start}
-use Rattle.map_sameness.specs.Pairing.{Pairs, image_of, origin_of, are_alike, with_pair, no_pairs, with_todo, taken_off, weight, IsImage, IsPairing, is_todo, Grows, is_cabled_at, is_stray, HasStray, IsCompared, AreCompared, Meets, Compares}
+use Rattle.map_sameness.specs.Pairing.{Pairs, image_of, origin_of, are_alike, with_pair, no_pairs, with_todo, taken_off, IsImage, IsPairing, is_todo, Grows, is_cabled_at, is_stray, HasStray, IsCompared, AreCompared, Meets, Compares}
 use Rattle.map_sameness.proofs.Forced.{forced, stands-in, far-joined, joined-far, host-found, host-is_found}
-use Rattle.map_sameness.proofs.Pairs.{met-still, far-inside, pair-kept, pair-grows, image-same, grows-itself}
+use Rattle.map_sameness.proofs.Pairs.{far-inside, pair-kept, pair-grows, image-same, grows-itself}
 
 -- ---- tables
 below : (is : List (Option Image)) (v : ℕ) (i : Image) → slice_index_or is v None ≡ Some i → v < length is
@@ -91,11 +91,6 @@ stray_wrong n m s v i p is stray same =
     false≢true (sym (ap not there) ∙ two.1)
 
 -- ---- one vertex more
-compared-still : (n : Network) (m : NetMap) (s t : Pairs) (v : ℕ) (i : Image) → Grows s t → IsCompared n m s v i → IsCompared n m t v i
-compared-still n m s t v i g c = record {
-  cabled = c.cabled;
-  met = λ p e f. met-still m s t (record { v = v; p = pos p -ℤ i.offset }) e g (c.met p e f);
-}
 
 pub compares : (n : Network) (m : NetMap) (s t : Pairs) (v : ℕ) (i : Image) → image_of s v ≡ Some i → ((p : ℤ) → is_stray n m v i p ≡ false) → ((p : ℕ) → Meets n m s t v i p) → Compares n m s t v
 compares n m s t v i is cabled met = record {
@@ -176,17 +171,6 @@ pairing-taken n m s r todo taken p =
     origin : (x : Vertex) → origin_of (with_todo r todo) x ≡ origin_of r x
     origin (Host h) = refl
     origin (Switch k) = refl
-
--- the map is wrong by what was found at a vertex that was taken off
-pub taken-wrong : (n : Network) (m : NetMap) (s r : Pairs) (todo : List ℕ) (host : ℕ) → s ≡ with_todo r todo → s.host ≡ host → (IsMapOfPart n r.host m → ⊥) → IsMapOfPart n host m → ⊥
-taken-wrong n m s r todo host taken same wrong right = wrong (subst (λ h. IsMapOfPart n h m) (sym same ∙ ap (λ (x : Pairs). x.host) taken) right)
-
--- there is less to do
-pub next-less : (n : Network) (m : NetMap) (s r t : Pairs) (v : ℕ) → s ≡ with_todo r (taken_off (Some v) r.todo) → Compares n m r t v → weight t < weight s
-next-less n m s r t v taken c =
-    let w : weight s ≡ weight (with_todo r (v ∷ r.todo)) = ap weight taken in
-    let l = c.grows.less in
-    omega (arith, w, l)
 
 -- ---- the mapper's host
 host-alike : (o : Option MapVertex) (h : ℕ) → host_at o ≡ Some h → are_alike o (Host h) (pos 0) ≡ true

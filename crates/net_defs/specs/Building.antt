@@ -14,10 +14,6 @@ use Rattle.net_defs.specs.Network.{Network, names, has_vertex, has_port, is_port
 abbrev pub taken : Network → List ℕ → Bool
 taken n name = list_any (bytes_eq name) (names n)
 
--- the place of a name among names
-abbrev pub place_of_name : List ℕ → List (List ℕ) → Option ℕ
-place_of_name name all = position (bytes_eq name) all
-
 -- the one of two that is there, the first before the second
 abbrev pub first_of_two : {X : Type 0} → Option X → Option X → Option X
 first_of_two None y = y

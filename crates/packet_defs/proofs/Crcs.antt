@@ -89,11 +89,6 @@ crc-push bytes byte h =
     let here : left 0 (bits_of (bytes ++ byte ∷ [])) ≡ left 0 (bits_of_byte x) = sym (crc-left bytes byte h) ∙ xor_comm byte (crc bytes) ∙ sym (left-byte x small) in
     left-append 0 (bits_of (bytes ++ byte ∷ [])) (zeros 8) ∙ ap (λ n. left n (zeros 8)) here ∙ sym (left-append 0 (bits_of_byte x) (zeros 8))
 
-bits_of-zeros : (n : ℕ) → bits_of (replicate n 0) ≡ zeros (8 * n)
-bits_of-zeros zero = refl
-bits_of-zeros (suc n) =
-    let e : 8 * suc n ≡ 8 + 8 * n = omega arith in ap (λ l. zeros 8 ++ l) (bits_of-zeros n) ∙ replicate-append-replicate 8 (8 * n) false ∙ sym (ap zeros e)
-
 -- 127 zero bytes leave a remainder as it is: the least power of x that leaves 1 is the 127th
 turn_round : (k r : ℕ) → r < 256 → left r (zeros (k * 127)) ≡ r
 turn_round zero r h = refl

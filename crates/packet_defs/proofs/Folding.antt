@@ -37,11 +37,6 @@ pub left-zeros_nonzero : (n r : ℕ) → r < 256 → 0 < r → 0 < left r (zeros
 left-zeros_nonzero zero r h k = k
 left-zeros_nonzero (suc n) r h k = left-zeros_nonzero n (step r false) (step-lt r false h) (step-nonzero r h k)
 
-pub length-xor_bits : (p q : List Bool) → length p ≡ length q → length (xor_bits p q) ≡ length p
-length-xor_bits [] q e = refl
-length-xor_bits (c ∷ p) [] e = absurd (omega (arith, e))
-length-xor_bits (c ∷ p) (d ∷ q) e = let same : length p ≡ length q = omega (arith, e) in ap suc (length-xor_bits p q same)
-
 -- a sum with zeros
 pub xor_bits-zeros : (p : List Bool) (n : ℕ) → length p ≡ n → xor_bits p (zeros n) ≡ p
 xor_bits-zeros [] n e = refl

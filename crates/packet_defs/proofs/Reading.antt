@@ -29,11 +29,6 @@ turns_of-turns (b ∷ bs) ts e = by (turn_of b) (turns_of bs) refl refl e (turns
         let here : is_turn t ≡ true = (turn_of-only b t q).0 in
         (subst (λ l. list_all is_turn l ≡ true) list (rw here rest.0), ap length (sym list) ∙ ap (λ n. suc n) rest.1)
 
--- turns that are read one after another: those before, and those of the bytes that are left
-pub turns-begin : (o : Option (List ℤ)) → o ≡ option_map (λ ts. [] ++ ts) o
-turns-begin None = refl
-turns-begin (Some ts) = refl
-
 pub turns-next : (before : List ℤ) (byte : ℕ) (turn : ℤ) (bytes : List ℕ) → turn_of byte ≡ Some turn → option_map (λ ts. before ++ ts) (turns_of (byte ∷ bytes)) ≡ option_map (λ ts. (before ++ turn ∷ []) ++ ts) (turns_of bytes)
 turns-next before byte turn bytes e = ap (λ o. option_map (λ ts. before ++ ts) (option_and_then (λ t. option_map (λ turns. t ∷ turns) (turns_of bytes)) o)) e ∙ by (turns_of bytes)
   where

@@ -22,10 +22,6 @@ xor_swap a b c d = xor_assoc a b (bit_xor c d) ∙ ap (bit_xor a) (xor_left b c 
 pub xor_twice : (a d : ℕ) → bit_xor (bit_xor a d) d ≡ a
 xor_twice a d = xor_assoc a d d ∙ ap (bit_xor a) (xor_self d) ∙ xor_zero_r a
 
--- an equal sum of two is that of one with the other
-pub xor_across : (a b c : ℕ) → a ≡ bit_xor b c → bit_xor a c ≡ b
-xor_across a b c e = ap (λ x. bit_xor x c) e ∙ xor_twice b c
-
 bit-xor : (a b : Bool) → bit (differ a b) ≡ bit_xor (bit a) (bit b)
 bit-xor true true = refl
 bit-xor true false = refl

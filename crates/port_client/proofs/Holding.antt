@@ -75,8 +75,3 @@ all-held host port count ns below once whole = rw append-nil (record {
     back : (ns : List ℕ) → numbers_of (tokens_of host port ns) ≡ ns
     back [] = refl
     back (n ∷ ns) = ap (λ l. n ∷ l) (back ns)
-
--- as one that was just opened does
-pub all-opened : (host port count : ℕ) → AreAll host port count (tokens_of host port (range_with_len 0 count) ++ [])
-all-opened host port count = subst (λ ns. AreAll host port count (tokens_of host port ns ++ [])) (numbers-minted host port count)
-    (rw append-nil (subst (AreAll host port count) (sym (tokens-numbers host port (tokens host port count) (minted-own host port count))) (tokens-are_all host port count)))

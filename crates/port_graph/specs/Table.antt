@@ -25,10 +25,6 @@ place_of_port (Switch s) p = 128 + 16 * s + p
 abbrev pub place_of_end : End → ℕ
 place_of_end e = place_of_port e.v e.p
 
--- the number of places
-abbrev pub places : ℕ
-places = 1152
-
 -- what the table has at an end: nothing past its length
 abbrev pub entry : List (Option End) → End → Option End
 entry table e = slice_index_or table (place_of_end e) None

@@ -17,16 +17,6 @@ two true true x y = refl
 two false b x y = absurd (true≢false (sym x))
 two true false x y = absurd (true≢false (sym y))
 
--- a number may be taken modulo 256
-pub counts-wrapped : (bs : List ℕ) (d : ℕ) → counts_up (d % 256) bs ≡ counts_up d bs
-counts-wrapped [] d = refl
-counts-wrapped (b ∷ bs) d =
-    let now : (d % 256) % 256 ≡ d % 256 = omega arith in
-    let next : (d % 256 + 1) % 256 ≡ (d + 1) % 256 = omega arith in
-    let rest : counts_up (d % 256 + 1) bs ≡ counts_up (d + 1) bs =
-    sym (counts-wrapped bs (d % 256 + 1)) ∙ ap (λ n. counts_up n bs) next ∙ counts-wrapped bs (d + 1) in
-    ap (λ n. nat_eq b n && counts_up (d % 256 + 1) bs) now ∙ ap (λ r. nat_eq b (d % 256) && r) rest
-
 -- bytes that count up from a place of a message are its bytes from there
 are-bytes : (seed at : ℕ) (bs : List ℕ) → counts_up (seed + at) bs ≡ true → bs ≡ map (λ i. (seed + i) % 256) (range_with_len at (length bs))
 are-bytes seed at [] e = refl

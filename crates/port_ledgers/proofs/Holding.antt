@@ -148,10 +148,6 @@ pub closed-open : (a : PortName) (count : ℕ) (o : Option OpenPort) → may_be_
 closed-open a count None e = nothing e
 closed-open a count (Some p) e = (p, refl)
 
--- a port isn't closed
-pub told-kept : (q : Ports) (a : PortName) (count : ℕ) → may_be_said (Closed a count) (lookup (is_port a) q) ≡ false → IsToldTo q q (Closed a count) false
-told-kept q a count e = record { said = sym e; put = port-stays q a }
-
 -- ---- tokens
 not-there : (token : ℕ) (ts : List ℕ) → has_number ts token ≡ false → without_first (nat_eq token) ts ≡ ts
 not-there token [] e = refl

@@ -13,14 +13,14 @@ use Rattle.world_defs.specs.Acts.{Act, Happens, acted_all, MayActAll}
 use Rattle.world_defs.specs.Logs as log
 use Rattle.world_defs.specs.Row.{IsPartWay}
 use Rattle.run_defs.specs.declared.command.Command.{Command}
-use Rattle.run_defs.specs.declared.command.Command.TheVariants.{Map, Install, Settle, Revoke}
+use Rattle.run_defs.specs.declared.command.Command.TheVariants.{Map, Install, Settle}
 use Rattle.run_defs.specs.declared.line.MapWords.{MapWords}
 use Rattle.run_defs.specs.declared.line.Line.TheVariants.{Map as MapLine, InstallRefused}
 use Rattle.run_defs.specs.declared.line.InstallCause.TheVariants.{Busy}
 use Rattle.run_defs.specs.Mapped.{IsMapped, asks_of}
 use Rattle.run_defs.specs.Session.{SessionState, LastRoutes}
 use Rattle.run_defs.specs.Deed.{Deed, KeepsMap, says}
-use Rattle.run_defs.specs.Outcome.{Outcome, settle_lines, revocations, revoke_lines, set_of, may_install, refusal_cause, happening, install_now, install, deed_of, seen, outcome}
+use Rattle.run_defs.specs.Outcome.{Outcome, settle_lines, set_of, may_install, refusal_cause, happening, install_now, install, deed_of, seen, outcome}
 use Rattle.run_defs.specs.Output.{OneLine}
 use Rattle.run_defs.specs.Run.{map_pieces}
 use Rattle.run_defs.specs.Run.IsDeed.{determined, maps}
@@ -79,10 +79,6 @@ cut_settled s v p = part_done (happening (log.settle s.world).events (settle_lin
 
 pub cut_installed : (s : SessionState) (tries : ℕ) (v : WorldState) → IsPartActed s.world (install s.world tries s.last_routes).acts v → IsCutShort s (Install tries) v
 cut_installed s tries v p = part_done (install s.world tries s.last_routes) (determined refl) p
-
--- hosts that give up the epoch one after another
-pub cut_revoked : (s : SessionState) (v : WorldState) → IsPartWay s.world (revocations s.world) v → IsCutShort s Revoke v
-cut_revoked s v p = part_done (happening (revocations s.world) (revoke_lines s.world)) (determined refl) (part-events s.world v (revocations s.world) p)
 
 -- an installation, by whether it is refused
 abbrev unless : WorldState → LastRoutes → ℕ → Bool → Bool → Deed

@@ -1,11 +1,9 @@
 -- The hosts of a map among one address more.
-use Rattle.std.proofs.Common.{◌≡◌, ◌+◌, ℕ, [], ◌∷◌, ◌++◌, Bool, true, false, cond, nat_eq, refl, ap, sym, ◌∙◌, arith}
+use Rattle.std.proofs.Common.{◌≡◌, ◌+◌, ℕ, [], ◌∷◌, ◌++◌, Bool, true, false, cond, nat_eq, ap, sym, ◌∙◌, arith}
 use Rattle.std.specs.List.{filter, list_any, range_with_len}
 use Rattle.std.proofs.lemmas.List.{append-nil, map-id}
 use Rattle.std.proofs.lemmas.List.FromFn.{filter_of_map_range_with_len_more}
 use Rattle.map_defs.specs.NetMap.{NetMap, hosts_of}
-use Rattle.world_defs.specs.World.{WorldState, host_count}
-use Rattle.run_defs.specs.Run.{hosts_by_address}
 use Rattle.route_making.specs.Listed.{map_hosts_below}
 
 one-more : (p : ℕ → Bool) (k : ℕ) → filter p (range_with_len 0 (k + 1)) ≡ filter p (range_with_len 0 k) ++ cond (p k) (k ∷ []) []
@@ -23,7 +21,3 @@ host-missing m k e =
     one-more (λ h. list_any (nat_eq h) (hosts_of m.vertices)) k
     ∙ ap (λ b. map_hosts_below k m ++ cond b (k ∷ []) []) e
     ∙ append-nil (map_hosts_below k m)
-
--- the hosts of a map by address are those among the addresses of a world
-pub by-address : (w : WorldState) (m : NetMap) → hosts_by_address w m ≡ map_hosts_below (host_count w) m
-by-address w m = refl

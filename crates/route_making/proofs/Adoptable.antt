@@ -139,10 +139,6 @@ kept-adoptable n l fabric k =
       rises = λ c d b. may.rises c d b;
     }
 
--- numbers from one on that pass a test
-above : (low : ℕ) (hs : List ℕ) → Type 0
-above low hs = AllByRecursion (λ h. low ≤ h) hs
-
 in-range : (s k h : ℕ) → s ≤ h → h < s + k → list_any (nat_eq h) (range_with_len s k) ≡ true
 in-range s zero h low high = absurd (let no : ⊥ = omega (arith, low, high) in no)
 in-range s (suc k) h low high = by (nat_eq h s) refl (λ other. in-range (s + 1) k h other (omega (arith, high)))

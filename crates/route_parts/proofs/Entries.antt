@@ -42,9 +42,6 @@ entries-next k bytes behind e r =
     ap (λ (o : Front RouteEntry). whole (option_and_then (λ d. option_map (λ es. (d.0 ∷ es.0, es.1)) (entries_front k d.1)) o)) r
     ∙ whole-changed (λ es. e ∷ es) (entries_front k behind)
 
-pub entries-none : (k : ℕ) (bytes : List ℕ) → entry_front bytes ≡ None → whole (entries_front (suc k) bytes) ≡ None
-entries-none k bytes r = ap (λ (o : Front RouteEntry). whole (option_and_then (λ d. option_map (λ es. (d.0 ∷ es.0, es.1)) (entries_front k d.1)) o)) r
-
 -- hosts above one that stands above another
 above-all : (before : Option ℕ) (to : ℕ) (es : List RouteEntry) → is_above before to ≡ true → list_all (λ d. nat_lt to d.to) es ≡ true → list_all (λ d. is_above before d.to) es ≡ true
 above-all before to [] up all = refl
@@ -86,21 +83,6 @@ rise-next before k to turns behind bytes e there fits few up = by (turns_of turn
     by : (o : Option (List ℤ)) → turns_of turns ≡ o → is_some o ≡ true → rise_from before (suc k) bytes ≡ rise_from (Some to) k behind
     by None t n = absurd (false≢true n)
     by (Some walk) t n = rise-read before k to turns behind bytes walk e t fits few up
-
-pub rise-none : (before : Option ℕ) (k : ℕ) (bytes : List ℕ) → entry_front bytes ≡ None → rise_from before (suc k) bytes ≡ false
-rise-none before k bytes e = ap (are_risen before) (entries-none k bytes e)
-
-pub rise-low : (before : Option ℕ) (k to : ℕ) (turns behind bytes : List ℕ) (walk : List ℤ) → entry_viewed (Some ((to, turns), behind)) ≡ entry_front bytes → turns_of turns ≡ Some walk → is_above before to ≡ false → rise_from before (suc k) bytes ≡ false
-rise-low before k to turns behind bytes walk e t low =
-    ap (are_risen before) (entries-next k bytes behind (record { to = to; walk = walk }) (entry-is to turns behind bytes walk t e))
-    ∙ off (whole (entries_front k behind))
-  where
-    off : (o : Option (List RouteEntry)) → are_risen before (option_map (λ es. record { to = to; walk = walk } ∷ es) o) ≡ false
-    off None = refl
-    off (Some es) = rw low refl
-
-pub rise-stuck : (before : Option ℕ) (k to : ℕ) (turns behind bytes : List ℕ) → entry_viewed (Some ((to, turns), behind)) ≡ entry_front bytes → turns_of turns ≡ None → rise_from before (suc k) bytes ≡ false
-rise-stuck before k to turns behind bytes e none = rise-none before k bytes (sym e ∙ ap (option_map (λ (w : List ℤ). (record { to = to; walk = w }, behind))) none)
 
 -- entries that were read, and one more
 pub entries-read : (before : List RouteEntry) (k to : ℕ) (turns behind bytes : List ℕ) (walk : List ℤ) → entry_viewed (Some ((to, turns), behind)) ≡ entry_front bytes → turns_of turns ≡ Some walk → option_map (λ es. before ++ es) (whole (entries_front (suc k) bytes)) ≡ option_map (λ es. (before ++ record { to = to; walk = walk } ∷ []) ++ es) (whole (entries_front k behind))

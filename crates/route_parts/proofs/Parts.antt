@@ -1,12 +1,12 @@
 -- A part of a table in front of bytes: its numbers, its way back, its entries, and the rules.
-use Rattle.std.proofs.Common.{◌≡◌, ◌<◌, ◌≤◌, ◌^◌, ℕ, zero, suc, List, [], ◌∷◌, Bool, true, false, ◌&&◌, length, nat_eq, nat_lt, nat_le, Option, Some, None, is_some, option_map, ◌⊎◌, inl, inr, refl, ap, sym, ◌∙◌, arith, if◌then◌else◌}
+use Rattle.std.proofs.Common.{◌≡◌, ◌<◌, ◌≤◌, ◌^◌, ℕ, zero, suc, List, [], ◌∷◌, Bool, true, false, ◌&&◌, length, nat_lt, nat_le, Option, Some, None, is_some, option_map, ◌⊎◌, inl, inr, refl, ap, sym, ◌∙◌, arith, if◌then◌else◌}
 use Rattle.std.specs.Prelude.{ℤ, option_and_then, Result, Ok, Err, IfOk}
 use Rattle.std.specs.List.{list_all}
-use Rattle.std.specs.Int.{w16, w32, w64}
+use Rattle.std.specs.Int.{w16, w32}
 use Rattle.std.proofs.lemmas.Option.{same_Some}
 use Rattle.std.proofs.lemmas.Bool.{and_parts}
 use Rattle.std.proofs.lemmas.Bool.Decides.{nat_tests}
-use Rattle.world_defs.specs.Mapping.{RouteEntry, RoutePart, MappingBody, Front, number_front, byte_front, two_front, route_front, entry_front, entries_front, whole, with_entries, with_back, part_front, ack_front, probe_front, by_the_rules, is_mapping, is_part, is_route, are_entries, decode_mapping}
+use Rattle.world_defs.specs.Mapping.{RouteEntry, RoutePart, MappingBody, Front, number_front, byte_front, two_front, route_front, entry_front, entries_front, whole, with_entries, with_back, part_front, by_the_rules, is_part, is_route, are_entries, decode_mapping}
 use Rattle.packet_defs.specs.RouteByte.{turns_of}
 use Rattle.world_defs.specs.Mapping.MappingBody.{HostProbe, HostReply, Loopback, Part, PartAck}
 use Rattle.route_parts.specs.declared.head.Head.{Head}
@@ -54,51 +54,6 @@ part-read bytes = part-ruled (part_front bytes) ∙ by (two_front w32 4 bytes)
     by None = refl
     by (Some two) = dsts two.0 (number_front w16 2 two.1)
 
--- bytes of another kind are no part
-pub part-other : (kind : ℕ) (bytes : List ℕ) → (kind ≡ 4 → ⊥) → part_in (kind ∷ bytes) ≡ None
-part-other kind bytes other = by (nat_eq kind 1) (nat_eq kind 2) (nat_eq kind 3) (nat_eq kind 4) (nat_eq kind 5) refl
-  where
-    rules : (b : MappingBody) → of_part (Some b) ≡ None → of_part (if is_mapping b then Some b else None) ≡ None
-    rules b e = each (is_mapping b)
-      where
-        each : (t : Bool) → of_part (if t then Some b else None) ≡ None
-        each true = e
-        each false = refl
-
-    probe : (o : Front (ℕ × ℕ)) → of_part (by_the_rules (whole (option_and_then (λ two. option_map (λ back. (HostProbe two.0.0 two.0.1 back.0, back.1)) (route_front two.1)) o))) ≡ None
-    probe None = refl
-    probe (Some two) = each (route_front two.1)
-      where
-        each : (r : Front (List ℤ)) → of_part (by_the_rules (whole (option_map (λ back. (HostProbe two.0.0 two.0.1 back.0, back.1)) r))) ≡ None
-        each None = refl
-        each (Some (back, [])) = rules (HostProbe two.0.0 two.0.1 back) refl
-        each (Some (back, x ∷ xs)) = refl
-
-    reply : (o : Front (ℕ × ℕ)) → of_part (by_the_rules (whole (option_map (λ two. (HostReply two.0.0 two.0.1, two.1)) o))) ≡ None
-    reply None = refl
-    reply (Some (two, [])) = rules (HostReply two.0 two.1) refl
-    reply (Some (two, x ∷ xs)) = refl
-
-    loopback : (o : Front (ℕ × ℕ)) → of_part (by_the_rules (whole (option_map (λ two. (Loopback two.0.0 two.0.1, two.1)) o))) ≡ None
-    loopback None = refl
-    loopback (Some (two, [])) = rules (Loopback two.0 two.1) refl
-    loopback (Some (two, x ∷ xs)) = refl
-
-    ack : (o : Front (ℕ × ℕ)) → of_part (by_the_rules (whole (option_and_then (λ two. option_map (λ part. (PartAck two.0.0 two.0.1 part.0, part.1)) (byte_front two.1)) o))) ≡ None
-    ack None = refl
-    ack (Some (two, [])) = refl
-    ack (Some (two, p ∷ [])) = rules (PartAck two.0 two.1 p) refl
-    ack (Some (two, p ∷ x ∷ xs)) = refl
-
-    by : (d e f g h : Bool) → nat_eq kind 4 ≡ g
-        → of_part (by_the_rules (whole (if d then probe_front bytes else if e then option_map (λ two. (HostReply two.0.0 two.0.1, two.1)) (two_front w64 8 bytes) else if f then option_map (λ two. (Loopback two.0.0 two.0.1, two.1)) (two_front w64 8 bytes) else if g then option_map (λ p. (Part p.0, p.1)) (part_front bytes) else if h then ack_front bytes else None))) ≡ None
-    by true e f g h p = probe (two_front w64 8 bytes)
-    by false true f g h p = reply (two_front w64 8 bytes)
-    by false false true g h p = loopback (two_front w64 8 bytes)
-    by false false false true h p = absurd (other (grind (arith, nat_tests)))
-    by false false false false true p = ack (two_front w32 4 bytes)
-    by false false false false false p = refl
-
 -- the routes of a part, by their bytes
 pub behind-no_route : (h : Head) (bytes : List ℕ) → route_front bytes ≡ None → part_behind h bytes ≡ None
 behind-no_route h bytes e = ap (λ (o : Front (List ℤ)). ruled (whole (option_and_then (λ b. with_entries (record (part_of h) { back = b.0 }) b.1) o))) e
@@ -119,16 +74,6 @@ behind-viewed h bytes back rest entries count e f = by (turns_of back) refl
         ∙ ap (λ (o : Front ℕ). whole (option_and_then (λ n. option_map (λ es. (record (record (part_of h) { back = walk }) { entries = es.0 }, es.1)) (entries_front n.0 n.1)) o)) f
         ∙ whole-changed (λ es. record (record (part_of h) { back = walk }) { entries = es }) (entries_front count entries)
         ∙ put walk (whole (entries_front count entries)))
-
-pub behind-no_count : (h : Head) (bytes back rest : List ℕ) → route_viewed (Some (back, rest)) ≡ route_front bytes → byte_front rest ≡ None → part_behind h bytes ≡ None
-behind-no_count h bytes back rest e f = by (turns_of back) refl
-  where
-    by : (o : Option (List ℤ)) → turns_of back ≡ o → part_behind h bytes ≡ None
-    by None t = behind-no_route h bytes (sym e ∙ ap (option_map (λ (w : List ℤ). (w, rest))) t)
-    by (Some walk) t =
-        let front : route_front bytes ≡ Some (walk, rest) = sym e ∙ ap (option_map (λ (w : List ℤ). (w, rest))) t in
-        ap (λ (o : Front (List ℤ)). ruled (whole (option_and_then (λ b. with_entries (record (part_of h) { back = b.0 }) b.1) o))) front
-        ∙ ap (λ (o : Front ℕ). ruled (whole (option_and_then (λ n. option_map (λ es. (record (record (part_of h) { back = walk }) { entries = es.0 }, es.1)) (entries_front n.0 n.1)) o))) f
 
 -- so many entries were read
 entries-count : (k : ℕ) (bytes : List ℕ) (es : List RouteEntry) (rest : List ℕ) → entries_front k bytes ≡ Some (es, rest) → length es ≡ k
@@ -233,10 +178,6 @@ byte-front (b ∷ bs) rest byte e = let same = same_Some (byte, rest) (b, bs) e 
 -- a body that begins with these numbers
 pub part-numbered : (bytes rest behind : List ℕ) (h : Head) → Some (4, rest) ≡ byte_front bytes → Some (h, behind) ≡ numbers_front rest → part_in bytes ≡ part_behind h behind
 part-numbered bytes rest behind h e f =
-    ap part_in (byte-front bytes rest 4 e) ∙ part-read rest ∙ ap (option_and_then (λ (x : Head × List ℕ). part_behind x.0 x.1)) (sym f)
-
-pub part-not_numbered : (bytes rest : List ℕ) → Some (4, rest) ≡ byte_front bytes → None ≡ numbers_front rest → part_in bytes ≡ None
-part-not_numbered bytes rest e f =
     ap part_in (byte-front bytes rest 4 e) ∙ part-read rest ∙ ap (option_and_then (λ (x : Head × List ℕ). part_behind x.0 x.1)) (sym f)
 
 -- what a body says, where it says a part

@@ -57,12 +57,6 @@ record Ended (n : Network) (key : ConnectionKey) (k : ℕ) (fragment : FragmentO
   host_done : to_send key.src (node_at z key.src) ≡ None
   peer_done : to_send key.dst (node_at z key.dst) ≡ None
 
--- what passes leave of the cables where no planned fault strikes
-passes-unstruck : (w : WorldState) (l : Log Moved) → RoundPasses w l → Unstruck w l.world
-passes-unstruck w l (Repeats.last e) = round_pass-along Unstruck IsOfSettle along-unstruck settles-of w
-passes-unstruck w l (Repeats.another {l = rest} e more d) =
-    subst (λ t. Unstruck w t.world) (sym d) (along-unstruck.both w (round_pass w).world rest.world (round_pass-along Unstruck IsOfSettle along-unstruck settles-of w) (passes-unstruck (round_pass w).world rest more))
-
 module _ (flows : PlainDrainsIdle) (n : Network) (key : ConnectionKey) (k : ℕ) (fragment : FragmentOf) (readable : IsReadable fragment.message) (cables : CableHistory) (from : IsCabled cables key.src) (to : IsCabled cables key.dst) where
   cabled : (h : ℕ) (w : WorldState) → w.links.cables ≡ cables → IsCabled cables h → IsCabled w.links.cables h
   cabled h w same c = subst (λ x. IsCabled x h) (sym same) c

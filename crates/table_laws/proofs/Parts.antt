@@ -48,13 +48,6 @@ with_part-all P number entries (p ∷ ps) new all = by (nat_lt number p.0) (nat_
     by false true ih = (new, all.1)
     by false false ih = (all.0, ih)
 
-of_epoch-epoch : (t : TableState) (epoch : ℕ) → (of_epoch t epoch).epoch ≡ epoch
-of_epoch-epoch t epoch = by (nat_eq t.epoch epoch) refl
-  where
-    by : (b : Bool) → nat_eq t.epoch epoch ≡ b → (if b then t else record t { epoch = epoch; revoked = false; collected = [] }).epoch ≡ epoch
-    by true e = grind (arith, nat_tests)
-    by false e = refl
-
 -- what a host has of the set as it collects a part of it: its mark is gone, and what is active and collected are the set's
 record IsTaking (o : Option Adoption) (host epoch : ℕ) (t : TableState) : Type 0 where
   now : t.epoch ≡ epoch

@@ -1,5 +1,5 @@
 -- What each change of a host leaves of its sends, tickets and messages.
-use Rattle.std.proofs.Common.{◌≡◌, ◌≢◌, ◌<◌, ◌≤◌, ◌+◌, ℕ, Bool, true, false, List, [], ◌∷◌, ◌++◌, length, take, drop, max, set, get_or, nat_lt, nat_le, Option, Some, None, option_map, ◌⊎◌, inl, inr, refl, sym, ap, ◌∙◌, arith, if◌then◌else◌}
+use Rattle.std.proofs.Common.{◌≡◌, ◌≢◌, ◌<◌, ◌≤◌, ◌+◌, ℕ, Bool, true, false, List, [], ◌∷◌, ◌++◌, length, take, drop, max, set, get_or, nat_lt, nat_le, Some, None, option_map, ◌⊎◌, inl, inr, refl, sym, ap, ◌∙◌, arith, if◌then◌else◌}
 use Rattle.std.proofs.lemmas.Bool.Decides.{nat_tests}
 use Rattle.std.proofs.lemmas.List.{get_or-set_same, get_or-set_other, length-drop, length-take-le, take-append-drop, drop-append-le, drop-drop}
 use Rattle.gm_defs.specs.declared.message.Message.{Message}
@@ -9,7 +9,7 @@ use Rattle.gm_defs.specs.declared.token.Took.TheVariants.{NotNext, NoToken, Part
 use Rattle.gm_defs.specs.Fragment.{fragments, whole_below}
 use Rattle.gm_defs.specs.Connection.{SenderState, IsSender, is_taken, acknowledged}
 use Rattle.gm_defs.specs.Token.{Sending, PortState}
-use Rattle.gm_defs.specs.Port.{finished, sent_with, delivered}
+use Rattle.gm_defs.specs.Port.{sent_with, delivered}
 use Rattle.gm_defs.proofs.Choices.{both}
 use Rattle.gm_defs.proofs.Numbers.{more-below, below-up, below-few}
 use Rattle.world_defs.specs.Lane.{LaneState, Ticket, new_lane, with_message, finished_by, lane_acknowledged, tickets_finished, lane_expired, lane_sent_one, lane_answered, lane_after}
@@ -19,7 +19,7 @@ use Rattle.world_defs.proofs.Hearings.{delivered_after-lanes, all_finished-lanes
 use Rattle.ticket_laws.specs.Host.{send_in, send_under, tickets_of, unfinished_of, AllApart}
 use Rattle.ticket_laws.proofs.Matching.{same-or, OneAfter, the_one, another, tickets-long, matched-same, matched-accepted}
 use Rattle.ticket_laws.proofs.Sendings.{under, under-joined, under-new}
-use Rattle.ticket_laws.proofs.Ports.{SameSends, delivered-sends, set-sends, SameTickets, lanes-same, lanes-set, HostMatched, host-same, port-there, same-ticket, at, at-here, at-other, all-finished}
+use Rattle.ticket_laws.proofs.Ports.{delivered-sends, set-sends, SameTickets, lanes-same, lanes-set, HostMatched, host-same, port-there, same-ticket, at, at-here, at-other, all-finished}
 
 -- one lane of a host
 pub lane-new : (n m : NodeState) (k : ℕ) (q : LaneState) → m.lanes ≡ set n.lanes k q → k < length n.lanes → lane_at m k ≡ q
@@ -59,10 +59,6 @@ quiet-same holds n m e f = host-same holds n m (λ x. ap (λ ps. send_in (get_or
 -- one lane that keeps its tickets and messages
 pub lane-matched : (holds : List ℕ → List ℕ → Type 0) (n : NodeState) (k : ℕ) (q : LaneState) → SameTickets (lane_at n k) q → HostMatched holds n → HostMatched holds (with_lane n k q)
 lane-matched holds n k q here = host-same holds n (with_lane n k q) (λ x. refl) (lanes-set n (with_lane n k q) k q refl here)
-
--- one port that keeps its sends
-pub port-matched : (holds : List ℕ → List ℕ → Type 0) (n : NodeState) (port : ℕ) (o : Option PortState) → SameSends (port_at n port) o → HostMatched holds n → HostMatched holds (with_port n port o)
-port-matched holds n port o same = host-same holds n (with_port n port o) (set-sends n (with_port n port o) port o refl same) (lanes-same n (with_port n port o) refl)
 
 pub sending-same : (holds : List ℕ → List ℕ → Type 0) (n : NodeState) (out : Outgoing) → HostMatched holds n → HostMatched holds (after_sending n out)
 unfolding after_sending

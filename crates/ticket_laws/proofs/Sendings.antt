@@ -34,20 +34,6 @@ pub under-none : (t : ℕ) (xs : List Sending) → AllByRecursion (λ y. t ≢ y
 under-none t [] all = refl
 under-none t (x ∷ xs) all = under-past t x xs (λ e. all.0 (sym e)) ∙ under-none t xs all.1
 
-pub under-token : (t : ℕ) (xs : List Sending) (s : Sending) → under t xs ≡ Some s → s.token ≡ t
-under-token t [] s e = cc
-under-token t (x ∷ xs) s e = by (nat_eq x.token t) refl (under-token t xs s)
-  where
-    by : (b : Bool) → nat_eq x.token t ≡ b → (under t xs ≡ Some s → s.token ≡ t) → s.token ≡ t
-    by true b rest =
-        let same : x.token ≡ t = grind (arith, nat_tests) in
-        let first : Some x ≡ Some s = sym (under-here t x xs same) ∙ e in
-        let it : x ≡ s = cc in
-        ap (λ z. z.token) (sym it) ∙ same
-    by false b rest =
-        let other : x.token ≢ t = λ d. absurd (grind (arith, nat_tests)) in
-        rest (sym (under-past t x xs other) ∙ e)
-
 -- some send stands under the token of each
 pub under-some : (xs : List Sending) (i : ℕ) (s : Sending) → slice_get xs i ≡ Some s → (y : Sending) × (under s.token xs ≡ Some y)
 under-some [] i s e = cc

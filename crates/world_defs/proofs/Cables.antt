@@ -1,13 +1,12 @@
 -- In a world that is reached from the new one of a fabric, the cables are a history that begins with the fabric, and they were accepted at the adoption.
-use Rattle.std.proofs.Common.{◌≡◌, ◌≤◌, ℕ, refl, ◌∙◌, arith}
+use Rattle.std.proofs.Common.{◌≡◌, ◌≤◌, refl, ◌∙◌, arith}
 use Rattle.net_defs.specs.Network.{Network, IsFabric}
 use Rattle.world_defs.proofs.FewCables.{few_named}
 use Rattle.world_defs.specs.History.{IsHistory, fabric_at}
 use Rattle.world_defs.proofs.First.{first_is_history, first_stands}
-use Rattle.world_defs.proofs.Now.{now_is_fabric}
 use Rattle.world_defs.specs.Table.{at_in}
-use Rattle.world_defs.specs.World.{WorldState, fabric_of, new_world}
-use Rattle.world_defs.specs.Acts.{Act, acted, IsReached}
+use Rattle.world_defs.specs.World.{WorldState, new_world}
+use Rattle.world_defs.specs.Acts.{acted, IsReached}
 use Rattle.world_defs.proofs.ActsKept.{CablesKept, acted-kept}
 use Rattle.world_defs.proofs.Reaching.{reached-has}
 
@@ -39,7 +38,3 @@ reached-cables n w r = reached-has (HasCables n) n (new-cables n r.fabric) (λ v
 
 pub reached-history : (n : Network) (w : WorldState) → IsReached n w → IsHistory w.links.cables
 reached-history n w r = (reached-cables n w r).history
-
--- so the fabric as it stands is one
-pub reached-fabric : (n : Network) (w : WorldState) → IsReached n w → IsFabric (fabric_of w)
-reached-fabric n w r = now_is_fabric w.links.cables (reached-history n w r)

@@ -16,10 +16,10 @@ use Rattle.world_defs.specs.declared.event.Event.{Event}
 use Rattle.world_defs.specs.declared.effect.Effect.{Effect}
 use Rattle.world_defs.specs.Node.{Outgoing, packet_for}
 use Rattle.world_defs.specs.World.{WorldState}
-use Rattle.world_defs.specs.Step.{planned_strikes, sent_out, step}
+use Rattle.world_defs.specs.Step.{planned_strikes, sent_out}
 use Rattle.world_defs.specs.declared.fault.Fault.{Fault}
-use Rattle.world_defs.specs.declared.fault.Fault.TheVariants.{Lose as LoseFault, Repeat as RepeatFault, Hold as HoldFault, Flip as FlipFault, Pull as PullFault}
-use Rattle.world_defs.proofs.Views.{LinksChange, Change, view}
+use Rattle.world_defs.specs.declared.fault.Fault.TheVariants.{Lose as LoseFault}
+use Rattle.world_defs.proofs.Views.{LinksChange, Change}
 use Rattle.world_defs.proofs.Strikes.{fault_step, Strike, strike_view}
 
 pick-epoch : {X : Type 0} (k : ℕ) (t : Bool) (x y : X × LinkState) → x.1.epoch ≡ k → y.1.epoch ≡ k → (pick t x y).1.epoch ≡ k
@@ -115,6 +115,3 @@ change-epoch {w = w} (Change.arrives {c = c} packet h d e f g) = stepped-epoch w
 change-epoch (Change.host k) = refl
 change-epoch {w = w} (Change.injects {h = h} c out d e f g o) = injection-epoch w h c out
 change-epoch (Change.calls k) = refl
-
-pub step-epoch : (w : WorldState) (e : Event) → (step w e).1.links.epoch ≡ w.links.epoch
-step-epoch w e = change-epoch (view w e)

@@ -57,9 +57,6 @@ row-one w e q = record { kinds = (q, tt); there = refl }
 abbrev pub Rows : {A : Type 0} → (Event → Type 0) → WorldState → Log A → Type 0
 Rows Q w l = IsRow Q w l.events l.world
 
-pub row-to : {A : Type 0} {Q : Event → Type 0} (w v : WorldState) (l : Log A) → v ≡ l.world → Rows Q w l → IsRow Q w l.events v
-row-to w v l is r = record { kinds = r.kinds; there = is ∙ r.there }
-
 either : {A : Type 0} (Q : Event → Type 0) (w : WorldState) (l m : Log A) (b : Bool) → Rows Q w l → Rows Q w m → Rows Q w (if b then l else m)
 either Q w l m true p q = p
 either Q w l m false p q = q

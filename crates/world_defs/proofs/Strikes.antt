@@ -64,11 +64,6 @@ strike-adopted (Strike.spares e) = refl
 strike-adopted (Strike.misses f e k) = refl
 strike-adopted (Strike.strikes f e k) = refl
 
-pub strike-injected : {w v : WorldState} {c : ℕ} → Strike w c v → v.injected ≡ w.injected
-strike-injected (Strike.spares e) = refl
-strike-injected (Strike.misses f e k) = refl
-strike-injected (Strike.strikes f e k) = refl
-
 -- what an injection leaves, whatever strikes
 pub injection-nodes : (w : WorldState) (h c : ℕ) (out : Outgoing) → (planned_strikes (sent_out w h c out) c).nodes ≡ set w.nodes h (after_sending (node_at w h) out)
 unfolding sent_out
