@@ -11,8 +11,7 @@ use Rattle.port_ledgers.specs.Waiting.{AreWaiting, waiting}
 use Rattle.port_ledgers.specs.Held.{AreHeld, AreTokensRight}
 use Rattle.run_defs.specs.declared.command.Command.{Command}
 use Rattle.report_lines.specs.declared.line.ReportLine.{ReportLine}
-use Rattle.report_lines.specs.declared.line.ReportLine.TheVariants.{Walk, Map, MapBusy, Circuit, CircuitNodes, Routes, NoMap, Rank, EndRoutes, Installed, Table, InstallRefused, Opened, Closed, Provided, Accepted, Returned, Received, NothingCame, CallRefused, Tokens, PlanAt, Step, Settle, Finish, Pull, Plug, Revoked, Broken, EndBroken, NoBroken}
-use Rattle.report_lines.specs.declared.line.ReportLine.TheVariants.{Route as RouteLine}
+use Rattle.report_lines.specs.declared.line.ReportLine.TheVariants.{Opened, Closed, Provided, Accepted, Returned, Received, Tokens}
 use Rattle.report_lines.specs.declared.line.ReceivedLine.{ReceivedLine}
 use Rattle.report_lines.specs.declared.line.TokensLine.{TokensLine}
 use Rattle.answer_defs.specs.declared.why.Why.TheVariants.{Token as BadToken}
@@ -90,31 +89,7 @@ silent c (Accepted a token) o s p t b r w = absurd (t a token refl)
 silent c (Returned a token) o s p t b r w = absurd (b a token refl)
 silent c (Received l) o s p t b r w = absurd (r l refl)
 silent c (Tokens l) o s p t b r w = absurd (w l refl)
-silent c Walk o s p t b r w = record { untold = refl; lengths = tt; places = λ past. tt }
-silent c (Map h said) o s p t b r w = record { untold = refl; lengths = tt; places = λ past. tt }
-silent c (MapBusy h) o s p t b r w = record { untold = refl; lengths = tt; places = λ past. tt }
-silent c (Circuit h depth) o s p t b r w = record { untold = refl; lengths = tt; places = λ past. tt }
-silent c (CircuitNodes h) o s p t b r w = record { untold = refl; lengths = tt; places = λ past. tt }
-silent c (Routes count) o s p t b r w = record { untold = refl; lengths = tt; places = λ past. tt }
-silent c NoMap o s p t b r w = record { untold = refl; lengths = tt; places = λ past. tt }
-silent c (RouteLine route) o s p t b r w = record { untold = refl; lengths = tt; places = λ past. tt }
-silent c (Rank v port rank) o s p t b r w = record { untold = refl; lengths = tt; places = λ past. tt }
-silent c EndRoutes o s p t b r w = record { untold = refl; lengths = tt; places = λ past. tt }
-silent c (Installed acked count) o s p t b r w = record { untold = refl; lengths = tt; places = λ past. tt }
-silent c (Table h active) o s p t b r w = record { untold = refl; lengths = tt; places = λ past. tt }
-silent c InstallRefused o s p t b r w = record { untold = refl; lengths = tt; places = λ past. tt }
-silent c (NothingCame a) o s p t b r w = record { untold = refl; lengths = tt; places = λ past. tt }
-silent c (CallRefused call a) o s p t b r w = record { untold = refl; lengths = tt; places = λ past. tt }
-silent c PlanAt o s p t b r w = record { untold = refl; lengths = tt; places = λ past. tt }
-silent c Step o s p t b r w = record { untold = refl; lengths = tt; places = λ past. tt }
-silent c Settle o s p t b r w = record { untold = refl; lengths = tt; places = λ past. tt }
-silent c Finish o s p t b r w = record { untold = refl; lengths = tt; places = λ past. tt }
-silent c (Pull at done) o s p t b r w = record { untold = refl; lengths = tt; places = λ past. tt }
-silent c (Plug a e done) o s p t b r w = record { untold = refl; lengths = tt; places = λ past. tt }
-silent c Revoked o s p t b r w = record { untold = refl; lengths = tt; places = λ past. tt }
-silent c (Broken from to) o s p t b r w = record { untold = refl; lengths = tt; places = λ past. tt }
-silent c EndBroken o s p t b r w = record { untold = refl; lengths = tt; places = λ past. tt }
-silent c NoBroken o s p t b r w = record { untold = refl; lengths = tt; places = λ past. tt }
+silent c _ o s p t b r w = record { untold = refl; lengths = tt; places = λ past. tt }
 
 -- so it is right
 pub silent-judged : (before : List Answered) (c : Command) (l : ReportLine) (p : LedgersState) → IsSilent c l → AreLedgersOf before p → JudgesLine before (answered c (Alone l)) None p

@@ -24,13 +24,14 @@ use Rattle.report_lines.specs.declared.line.ReportLine.TheVariants.{Broken as Br
 use Rattle.map_canon.specs.Reading.{map_part, map_reading}
 use Rattle.answer_defs.specs.Answer.{Answer, Alone, WithMap, WithRoutes, WithTables, WithBroken}
 use Rattle.judge_defs.specs.Form.{Known, Reads, may_answer, rank_lines, routes_block, table_lines, tables_of, tables_block, active_count, map_block, circuit_block, pair_in, broken_block, refused_block, block_of, answer_by, answer_from}
-use Rattle.judge_laws.specs.Lines.{Says, routes_line, installed_line, end_of_broken}
+use Rattle.judge_laws.specs.Lines.{Says}
 use Rattle.judge_laws.specs.Answers.{has_map, may_show, is_alone, IsRouteIn, AreRoutesRising, IsRankIn, AreRanksRising, ArePairsRising, lines_at, IsPrintedAnswer, alone, with_map, with_routes, with_tables, with_broken}
 use Rattle.judge_laws.specs.Laws.{IsFirstLine, IsFirstAnswer}
 use Rattle.judge_laws.proofs.Written.{line-first}
 use Rattle.judge_laws.proofs.Held.{filter-few}
 use Rattle.judge_laws.proofs.Maps.{map-first}
 use Rattle.judge_laws.proofs.Blocks.{output-more, lines-more, routes-first, ranks-first, tables-first, pair-line, pairs-first}
+use Rattle.judge_laws.proofs.Saying.{routes_line, installed_line, end_of_broken}
 
 -- the refusal of a line `broken` where no routes are adopted
 refusal-alone : (adopted : Bool) (p : Option (ℕ × ℕ)) (past : ℕ) (n : Network) (ls : List TextLine) → not adopted ≡ true → refused_block adopted p past n ls ≡ Ok (Alone NoBrokenSaid, ls)

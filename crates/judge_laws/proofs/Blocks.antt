@@ -24,12 +24,12 @@ use Rattle.report_lines.specs.declared.line.ReportLine.TheVariants.{Route as Rou
 use Rattle.line_table.specs.Said.{host_said}
 use Rattle.report_lines.specs.Lines.{line_said}
 use Rattle.judge_defs.specs.Form.{Reads, where_due, next_due, route_due, route_lines, rank_told, where_above, rank_due, is_rank_above, is_end_of_routes, ranks_from, rank_lines, table_due, table_lines, pair_in, pair_where, pair_due, is_end_of_broken, pairs_from, broken_lines}
-use Rattle.judge_laws.specs.Lines.{Says, IsVertexIn, are_refusal_words, table_line, end_of_routes, end_of_broken, broken_line, broken_names}
-use Rattle.judge_laws.specs.Lines.{route_line as says_route, rank_line as says_rank}
+use Rattle.judge_laws.specs.Lines.{Says, IsVertexIn, are_refusal_words, broken_line, broken_names}
 use Rattle.judge_laws.specs.Answers.{lines_at, IsRouteIn, AreRoutesRising, IsRankIn, AreRanksRising, ArePairsRising}
 use Rattle.judge_laws.specs.Laws.{IsFirstLine}
 use Rattle.line_table.proofs.Filled.{host-read}
 use Rattle.judge_laws.proofs.Written.{line-first}
+use Rattle.judge_laws.proofs.Saying.{table_line, end_of_routes, end_of_broken, route_line as says_route, rank_line as says_rank}
 
 -- the text of lines, one before others
 pub output-more : (n : Network) (p : Piece) (out : List Piece) (rest : List ℕ) → output_text n (p ∷ out) ++ rest ≡ piece_text n p ++ (output_text n out ++ rest)

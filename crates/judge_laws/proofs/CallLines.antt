@@ -14,15 +14,14 @@ use Rattle.port_ledgers.specs.declared.lane.PortName.{PortName}
 use Rattle.port_ledgers.specs.Told.{Told, Opened as ToldOpened, Closed as ToldClosed, Provided as ToldProvided, Accepted as ToldAccepted, Returned as ToldReturned, Received as ToldReceived}
 use Rattle.port_ledgers.specs.Held.{OpenPort, port_of, port_from, MayBeSaidOf}
 use Rattle.run_defs.specs.declared.command.Command.{Command}
-use Rattle.run_defs.specs.declared.command.Command.TheVariants.{Walk, Map, Circuit, Routes, Install, Begin as BeginCommand, Close as CloseCommand, Poll as PollCommand, Tokens as TokensCommand, Provide as ProvideCommand, Send as SendCommand, Plan, Step, Settle, Finish, Duo, Pull, Plug, Revoke, Broken}
+use Rattle.run_defs.specs.declared.command.Command.TheVariants.{Begin as BeginCommand, Close as CloseCommand, Poll as PollCommand, Tokens as TokensCommand, Provide as ProvideCommand, Send as SendCommand}
 use Rattle.run_defs.specs.declared.line.ClientCall.{ClientCall}
 use Rattle.run_defs.specs.declared.line.ClientCall.TheVariants.{Begin, Close, Provide, Send, Poll, Tokens}
 use Rattle.report_lines.specs.declared.line.ReportLine.{ReportLine}
 use Rattle.report_lines.specs.declared.line.ReportLine.TheVariants.{Opened, Closed, Provided, Accepted, Returned, Received, NothingCame, CallRefused}
 use Rattle.answer_defs.specs.Answer.{told_by}
 use Rattle.judge_defs.specs.Form.{call_of, same_call, may_answer}
-use Rattle.judge_laws.specs.Lines.{CallSays, IsCounted}
-use Rattle.judge_laws.specs.Lines.{opened as says_opened, closed as says_closed, provided as says_provided, accepted as says_accepted, returned as says_returned, received as says_received, nothing_came as says_nothing, refused as says_refused}
+use Rattle.judge_laws.specs.Lines.{IsCounted}
 use Rattle.judge_laws.specs.Answers.{is_alone}
 use Rattle.judge_laws.proofs.Counts.{counts}
 use Rattle.judge_laws.proofs.Calls.{IsCall}
@@ -30,6 +29,7 @@ use Rattle.judge_laws.proofs.Owners.{number-join, number-holds, other-part}
 use Rattle.judge_laws.proofs.Ports.{open_by}
 use Rattle.judge_laws.proofs.Messages.{same-number, IsShown, IsMessageTold}
 use Rattle.judge_laws.proofs.CallMessages.{one_line, refused-messages, rests-messages, opens-messages, closes-messages, provides-messages, accepts-messages, sent-messages, received-messages}
+use Rattle.judge_laws.proofs.CallSaying.{CallSays, opened as says_opened, closed as says_closed, provided as says_provided, accepted as says_accepted, returned as says_returned, received as says_received, nothing_came as says_nothing, refused as says_refused}
 
 -- what a line tells, and what the call made of its port: nothing, or one thing
 pub data IsTold (m : NodeState) (c : Option ClientState) (a : PortName) (call : Called) : List Told → Type 0 where
@@ -140,20 +140,7 @@ module _ (n : Network) (m : NodeState) (c : Option ClientState) (h port : ℕ) (
   refusal-may (SendCommand g p dest dport prio len seed) kind e = ap (λ o. same_call o (Some (kind, at))) e ∙ same-named kind
   refusal-may (PollCommand g p) kind e = ap (λ o. same_call o (Some (kind, at))) e ∙ same-named kind
   refusal-may (TokensCommand g p) kind e = ap (λ o. same_call o (Some (kind, at))) e ∙ same-named kind
-  refusal-may (Walk g walk) kind e = cc
-  refusal-may (Map g depth tries) kind e = cc
-  refusal-may (Circuit g depth) kind e = cc
-  refusal-may Routes kind e = cc
-  refusal-may (Install tries) kind e = cc
-  refusal-may (Plan ahead fault) kind e = cc
-  refusal-may (Step line) kind e = cc
-  refusal-may Settle kind e = cc
-  refusal-may Finish kind e = cc
-  refusal-may (Duo event) kind e = cc
-  refusal-may (Pull end) kind e = cc
-  refusal-may (Plug one other) kind e = cc
-  refusal-may Revoke kind e = cc
-  refusal-may Broken kind e = cc
+  refusal-may _ kind e = cc
 
   pub call-line : (cmd : Command) (call : Called) → IsCall m c h port cmd call → ((t from sport prio : ℕ) (body : List ℕ) → cmd ≡ PollCommand h port → call.said ≡ SaidReceived t from sport prio body → IsShown n from sport prio body) → IsCallLine n m c at cmd call
   call-line cmd call (IsCall.refuses kind cause e may) shown = record {

@@ -45,8 +45,6 @@ use Rattle.answer_defs.specs.Answer.{Alone, Answered, complete_by, complete_map,
 use Rattle.map_defs.specs.NetMap.{NetMap}
 use Rattle.answer_defs.specs.Right.{MapIsTrue, GivesLength, PlacesAreTrue}
 use Rattle.judge_defs.specs.Form.{call_of, known_by}
-use Rattle.judge_laws.specs.Lines.{CallSays, call_line, tokens_line, told_place, tokens_not_open}
-use Rattle.judge_laws.specs.Lines.{opened as says_opened, closed as says_closed, provided as says_provided, accepted as says_accepted, returned as says_returned, received as says_received, nothing_came as says_nothing, refused as says_refused}
 use Rattle.judge_laws.specs.Answers.{alone}
 use Rattle.judge_laws.proofs.CallLines.{IsTold, call-line}
 use Rattle.judge_laws.proofs.CallMessages.{one_line, refused-messages}
@@ -57,6 +55,8 @@ use Rattle.judge_laws.proofs.Placing.{numbered, sends-placed, recvs-placed}
 use Rattle.judge_laws.proofs.Ports.{open_by, port_in, called-port, same-port, IsToldPorts, next-told, same-told}
 use Rattle.judge_laws.proofs.Quiet.{quiet-messages}
 use Rattle.judge_laws.proofs.Tracked.{IsFewTold, IsFewPort, port-few, told-few, IsFollowed, IsNext, run-received}
+use Rattle.judge_laws.proofs.CallSaying.{CallSays, call_line, tokens_not_open, opened as says_opened, closed as says_closed, provided as says_provided, accepted as says_accepted, returned as says_returned, received as says_received, nothing_came as says_nothing, refused as says_refused}
+use Rattle.judge_laws.proofs.Saying.{tokens_line, told_place}
 
 -- what the line of a call leaves of what is known
 record IsPlainLine (r : ReportLine) : Type 0 where

@@ -17,7 +17,7 @@ use Rattle.run_defs.specs.declared.line.ClientCall.TheVariants.{Begin as BeginCa
 use Rattle.run_defs.specs.declared.command.Command.{Command}
 use Rattle.run_defs.specs.declared.command.Command.TheVariants.{Begin, Close, Provide, Send, Poll}
 use Rattle.judge_defs.specs.Form.{call_of}
-use Rattle.judge_laws.specs.Lines.{MayRefuse, begin_already, close_not_open, close_busy, close_unread, close_filling, provide_not_open, provide_no_token, provide_bad_size, send_not_open, send_no_token, send_too_long, send_no_route, send_spent, poll_not_open}
+use Rattle.judge_laws.proofs.CallSaying.{MayRefuse, begin_already, close_not_open, close_busy, close_unread, close_filling, provide_not_open, provide_no_token, provide_bad_size, send_not_open, send_no_token, send_too_long, send_no_route, send_spent, poll_not_open}
 
 -- The call of a command of the client of a host's port, as it is refused, or as it is done.
 pub data IsCall (n : NodeState) (c : Option ClientState) (h port : ℕ) : Command → Called → Type 0 where

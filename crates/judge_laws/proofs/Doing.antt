@@ -71,7 +71,7 @@ use Rattle.report_lines.specs.declared.line.ReportLine.TheVariants.{NoMap as NoM
 use Rattle.answer_defs.specs.Answer.{Alone, WithMap, WithRoutes, WithTables, WithBroken, hosts_in, Answered, complete_by, complete_map, shown_by, shown_map, fabric_by, where_taken, are_adopted}
 use Rattle.answer_defs.specs.Right.{MapIsTrue, LeadsBetween, AreRoutesTrue, HoldOn}
 use Rattle.judge_defs.specs.Form.{may_answer}
-use Rattle.judge_laws.specs.Lines.{Says, IsPlaceIn, IsCounted, is_joined, walk_line, map_line, busy_line, circuit_line, nodes_line, install_refused, plan_line, step_line, AreWordsIn, settle_line, finish_line, pull_line, plug_line, revoked_line, no_map, no_broken}
+use Rattle.judge_laws.specs.Lines.{Says, IsCounted}
 use Rattle.judge_laws.specs.Answers.{is_alone, IsRouteIn, ArePairsRising, alone, with_map, with_routes, with_tables, with_broken}
 use Rattle.judge_laws.specs.Commands.{with_lines, shown_of, IsToldOf, HasNoPull, PlansNoPull, TellsNothing, IsAnsweredBy}
 use Rattle.judge_laws.proofs.Cabled.{fabric-pulled, fabric-plugged}
@@ -79,6 +79,8 @@ use Rattle.judge_laws.proofs.Unpulled.{Still, StaysStill, settle-still, install-
 use Rattle.judge_laws.proofs.Held.{IsKept, AreFine, count-of}
 use Rattle.judge_laws.proofs.RouteWalks.{routes-rising, routes-counted}
 use Rattle.judge_laws.proofs.Ranks.{ranks-in, ranks-rising}
+use Rattle.judge_laws.proofs.Fits.{AreWordsIn}
+use Rattle.judge_laws.proofs.Saying.{IsPlaceIn, is_joined, walk_line, map_line, busy_line, circuit_line, nodes_line, install_refused, plan_line, step_line, settle_line, finish_line, pull_line, plug_line, revoked_line, no_map, no_broken}
 
 -- what an event, an installation or all revocations come to, by the effects and the world then
 abbrev pub says_in : SessionState → List Line → WorldState → Outcome

@@ -15,7 +15,7 @@ use Rattle.world_defs.specs.World.{WorldState, new_world, node_at, client_at}
 use Rattle.world_defs.specs.Step.{wanted, step}
 use Rattle.world_defs.proofs.Lists.{each-replicate}
 use Rattle.run_defs.specs.declared.command.Command.{Command}
-use Rattle.run_defs.specs.declared.command.Command.TheVariants.{Walk, Map, Circuit, Routes, Install, Begin, Close, Poll, Tokens, Provide, Send, Plan, Step, Settle, Finish, Duo, Pull, Plug, Revoke, Broken}
+use Rattle.run_defs.specs.declared.command.Command.TheVariants.{Begin, Close, Poll, Tokens, Provide, Send, Duo}
 use Rattle.run_defs.specs.declared.line.Line.TheVariants.{MapBusy}
 use Rattle.run_defs.specs.declared.line.ClientCall.{ClientCall}
 use Rattle.run_defs.specs.declared.line.ClientCall.TheVariants.{Begin as BeginCall, Close as CloseCall, Provide as ProvideCall, Send as SendCall, Poll as PollCall}
@@ -93,19 +93,7 @@ module _ (n : Network) (front : List Command) (done : List Piece) (before : List
       as-next n front done before (Send h port dest dport prio len seed) out next o (as-so (doing d) o refl)
       (call-next n front done before s f all run k h port of_n.0 of_n.2.1 (Send h port dest dport prio len seed) SendCall call of_n refl (sent-is (node_at s.world h) h port (client_at s.world h port) dest dport prio len seed) (does (determined refl)))
   command-next (Duo event) of_n d kind safe = absurd (true≢false (sym kind))
-  command-next (Walk host walk) of_n d kind safe = network-next n front done before s next (Walk host walk) out f good all of_n run k d refl safe
-  command-next (Map host depth tries) of_n d kind safe = network-next n front done before s next (Map host depth tries) out f good all of_n run k d refl safe
-  command-next (Circuit host depth) of_n d kind safe = network-next n front done before s next (Circuit host depth) out f good all of_n run k d refl safe
-  command-next Routes of_n d kind safe = network-next n front done before s next Routes out f good all of_n run k d refl safe
-  command-next (Install tries) of_n d kind safe = network-next n front done before s next (Install tries) out f good all of_n run k d refl safe
-  command-next (Plan ahead fault) of_n d kind safe = network-next n front done before s next (Plan ahead fault) out f good all of_n run k d refl safe
-  command-next (Step line) of_n d kind safe = network-next n front done before s next (Step line) out f good all of_n run k d refl safe
-  command-next Settle of_n d kind safe = network-next n front done before s next Settle out f good all of_n run k d refl safe
-  command-next Finish of_n d kind safe = network-next n front done before s next Finish out f good all of_n run k d refl safe
-  command-next (Pull at) of_n d kind safe = network-next n front done before s next (Pull at) out f good all of_n run k d refl safe
-  command-next (Plug a b) of_n d kind safe = network-next n front done before s next (Plug a b) out f good all of_n run k d refl safe
-  command-next Revoke of_n d kind safe = network-next n front done before s next Revoke out f good all of_n run k d refl safe
-  command-next Broken of_n d kind safe = network-next n front done before s next Broken out f good all of_n run k d refl safe
+  command-next c of_n d kind safe = network-next n front done before s next c out f good all of_n run k d refl safe
 
 module _ (n : Network) (past : ℕ) (f : IsFabric n) (good : AreNamed n) where
   judged : {s last : SessionState} {cs : List Command} {out : List Piece} (front : List Command) (done : List Piece) (before : List Answered) (number : ℕ) → AllByRecursion (IsCommandOf n) front → AllByRecursion (IsCommandOf n) cs → AllByRecursion (λ c. is_judged c ≡ true) cs → AllByRecursion PlansNoPull cs

@@ -1,8 +1,10 @@
 pub mod Numbers
 pub mod Names
-pub mod Places
-pub mod Reading
 pub mod Fits
+pub mod CallSaying
+pub mod Saying
+pub mod RowReading
+pub mod Reading
 pub mod Written
 pub mod Maps
 pub mod Blocks

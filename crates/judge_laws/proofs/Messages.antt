@@ -27,8 +27,9 @@ use Rattle.run_defs.specs.declared.command.Command.TheVariants.{Send}
 use Rattle.run_defs.specs.Output.{Piece, OneLine, MapLines}
 use Rattle.client_laws.specs.Handed.{Handed, IsOfConnection, is_on, is_to, as_handed, in_send}
 use Rattle.promise_laws.specs.ReceivedLines.{received_in_line, received_in, send_answer, send_answers, is_send, accepted_as, accepted_by_lines, accepted_of, AreReceivedAsSent}
-use Rattle.judge_laws.specs.Lines.{IsCounted, AreBytes}
+use Rattle.judge_laws.specs.Lines.{IsCounted}
 use Rattle.judge_laws.proofs.Names.{host-there}
+use Rattle.judge_laws.proofs.CallSaying.{AreBytes}
 
 -- a number equals itself
 pub same-number : (t : ℕ) → nat_eq t t ≡ true

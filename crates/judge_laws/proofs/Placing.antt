@@ -10,8 +10,9 @@ use Rattle.port_ledgers.specs.declared.lane.ToldPlace.{ToldPlace}
 use Rattle.port_ledgers.specs.Held.{ArePlaced}
 use Rattle.run_defs.specs.declared.line.PlaceEntry.{PlaceEntry}
 use Rattle.run_defs.specs.Outcome.{places}
-use Rattle.judge_laws.specs.Lines.{AreNumbered, told_place}
 use Rattle.judge_laws.proofs.Owners.{placed-right}
+use Rattle.judge_laws.proofs.Fits.{AreNumbered}
+use Rattle.judge_laws.proofs.Saying.{told_place}
 
 -- tokens with their places
 abbrev places_of : (ℕ → Option TokenPlace) → List ℕ → List PlaceEntry

@@ -1,30 +1,36 @@
 -- What commands of the network print shows no message.
-use Rattle.std.proofs.Common.{◌≡◌, ℕ, Bool, true, false, List, [], ◌∷◌, ◌++◌, map, length, refl, sym, ap, ◌∙◌, subst, true≢false}
+use Rattle.std.proofs.Common.{◌≡◌, ℕ, Bool, true, false, List, [], ◌∷◌, ◌++◌, map, length, Option, Some, None, refl, sym, ap, ◌∙◌, subst, true≢false, if◌then◌else◌}
 use Rattle.std.specs.List.{AllByRecursion, filter}
 use Rattle.net_defs.specs.Network.{Network}
 use Rattle.gm_defs.specs.declared.frame.ConnectionKey.{ConnectionKey}
 use Rattle.journal_defs.proofs.Members.{all-join}
 use Rattle.map_defs.specs.NetMap.{NetMap}
+use Rattle.world_defs.specs.declared.client.ClientCause.TheVariants.{Busy, Unread, Filling}
 use Rattle.world_defs.specs.declared.effect.Said.{Said}
+use Rattle.world_defs.specs.declared.effect.Said.TheVariants.{Done, Count, Token, Sent, Received as SaidReceived, Nothing, Refused}
 use Rattle.port_ledgers.specs.declared.lane.PortName.{PortName}
 use Rattle.port_ledgers.specs.Told.{Told}
 use Rattle.run_defs.specs.declared.command.Command.{Command}
 use Rattle.run_defs.specs.declared.command.Command.TheVariants.{Begin, Close, Poll, Tokens as TokensCommand, Provide, Send, Duo}
 use Rattle.run_defs.specs.declared.line.ClientCall.{ClientCall}
+use Rattle.run_defs.specs.declared.line.ClientCall.TheVariants.{Begin as BeginCall, Provide as ProvideCall, Send as SendCall}
 use Rattle.run_defs.specs.declared.line.Line.{Line}
-use Rattle.run_defs.specs.declared.line.Line.TheVariants.{Routes, EndRoutes, Installed, Table, Broken, EndBroken}
+use Rattle.run_defs.specs.declared.line.Line.TheVariants.{Client, Routes, EndRoutes, Installed, Table, Broken, EndBroken}
+use Rattle.run_defs.specs.LineRows.{call_word, client_cause, said_kind, said_values, line_values}
+use Rattle.line_table.specs.declared.kind.LineKind.TheVariants.{CallDone, CallUnfinished}
+use Rattle.line_table.specs.Matching.{is_among}
 use Rattle.run_defs.specs.Output.{Piece, OneLine, MapLines, lines}
 use Rattle.run_defs.specs.Run.{route_line, rank_line}
 use Rattle.report_lines.specs.declared.line.ReceivedLine.{ReceivedLine}
 use Rattle.report_lines.specs.declared.line.TokensLine.{TokensLine}
 use Rattle.report_lines.specs.declared.line.ReportLine.{ReportLine}
 use Rattle.report_lines.specs.declared.line.ReportLine.TheVariants.{Opened, Closed, Provided, Accepted, Returned, Received, NothingCame, CallRefused, Tokens}
+use Rattle.report_lines.specs.Meaning.{call_named, called, causes_of, meaning, message_of, where_known}
 use Rattle.client_laws.specs.Handed.{is_on}
 use Rattle.promise_laws.specs.ReceivedLines.{received_in_line, received_in, send_answer, send_answers, is_send, accepted_by_lines}
 use Rattle.answer_defs.specs.Answer.{Answer}
 use Rattle.judge_defs.specs.Form.{Known, may_answer}
-use Rattle.judge_laws.specs.Lines.{CallSays, Says, walk_line, map_line, busy_line, circuit_line, nodes_line, routes_line, route_line as says_route, rank_line as says_rank, end_of_routes, no_map, installed_line, table_line, install_refused, call_line, tokens_line, plan_line, step_line, settle_line, finish_line, pull_line, plug_line, revoked_line, broken_line, broken_names, end_of_broken, no_broken}
-use Rattle.judge_laws.specs.Lines.{opened as says_opened, closed as says_closed, provided as says_provided, accepted as says_accepted, returned as says_returned, received as says_received, nothing_came as says_nothing, refused as says_refused}
+use Rattle.judge_laws.specs.Lines.{Says, by_row}
 use Rattle.judge_laws.specs.Answers.{IsPrintedAnswer, alone, with_map, with_routes, with_tables, with_broken}
 use Rattle.judge_laws.specs.Commands.{is_of_network}
 use Rattle.judge_laws.proofs.Messages.{IsMessageTold, connection, on, of_lane}
@@ -81,44 +87,44 @@ no-calls c e = record { opened = λ a. refl; closed = λ a count. refl; provided
 never : (b : Bool) → b ≡ true → b ≡ false → ⊥
 never b e f = true≢false (sym e ∙ f)
 
-no-call-says : {n : Network} {a : PortName} {kind : ClientCall} {said : Said} {r : ReportLine} → (c : Command) → HasNoCalls c → CallSays n a kind said r → may_answer c r ≡ true → ⊥
-no-call-says {a = a} c none says_opened may = never (may_answer c (Opened a)) may (none.opened a)
-no-call-says {a = a} c none (says_closed count fits) may = never (may_answer c (Closed a count)) may (none.closed a count)
-no-call-says {a = a} c none (says_provided token fits) may = never (may_answer c (Provided a token)) may (none.provided a token)
-no-call-says {a = a} c none (says_accepted token fits) may = never (may_answer c (Accepted a token)) may (none.accepted a token)
-no-call-says {a = a} c none (says_returned token fits) may = never (may_answer c (Returned a token)) may (none.returned a token)
-no-call-says {a = a} c none (says_received token from sport prio body fits there low few long bytes) may = true≢false (sym may ∙ none.received _)
-no-call-says {a = a} c none says_nothing may = never (may_answer c (NothingCame a)) may (none.nothing a)
-no-call-says {a = a} c none (says_refused call cause why) may = never (may_answer c (CallRefused call a)) may (none.refused call a)
+none-says : (c : Command) (x r : ReportLine) → ◌≡◌ {A = Option ReportLine} (Some x) (Some r) → may_answer c x ≡ false → may_answer c r ≡ true → ⊥
+none-says c x r e none may = let same : x ≡ r = cc in never (may_answer c r) may (ap (may_answer c) (sym same) ∙ none)
+
+none-refused : (c : Command) (call : ClientCall) (a : PortName) (r : ReportLine) (t : Bool) → HasNoCalls c → (if t then Some (CallRefused call a) else None) ≡ Some r → may_answer c r ≡ true → ⊥
+none-refused c call a r true none e may = none-says c (CallRefused call a) r e (none.refused call a) may
+none-refused c call a r false none e may = cc
+
+-- what a call says of its port
+none-called : (c : Command) → HasNoCalls c → (a : PortName) (r : ReportLine) (said : Said) (call : ClientCall) → called (said_kind said) call a (said_values said) ≡ Some r → may_answer c r ≡ true → ⊥
+none-called c none a r Done call e may = none-says c (Opened a) r e (none.opened a) may
+none-called c none a r (Count count) call e may = none-says c (Closed a count) r e (none.closed a count) may
+none-called c none a r (Token t) ProvideCall e may = none-says c (Provided a t) r e (none.provided a t) may
+none-called c none a r (Token t) SendCall e may = none-says c (Accepted a t) r e (none.accepted a t) may
+none-called c none a r (Token t) _ e may = cc
+none-called c none a r (Sent t) call e may = none-says c (Returned a t) r e (none.returned a t) may
+none-called c none a r (SaidReceived t from sport prio body) call e may = none-says c (message_of a t from sport prio (length body) body) r e (none.received _) may
+none-called c none a r Nothing call e may = none-says c (NothingCame a) r e (none.nothing a) may
+none-called c none a r (Refused (Busy count)) call e may = none-says c (CallRefused call a) r e (none.refused call a) may
+none-called c none a r (Refused (Unread count)) call e may = none-says c (CallRefused call a) r e (none.refused call a) may
+none-called c none a r (Refused (Filling count)) call e may = none-says c (CallRefused call a) r e (none.refused call a) may
+none-called c none a r (Refused cause) call e may = none-refused c call a r (is_among (causes_of call) (client_cause cause)) none e may
+
+-- the values of a call's line mean what the call says
+call-named : (call : ClientCall) → call_named (call_word call) ≡ Some call
+call-named BeginCall = refl
+call-named _ = refl
+
+call-means : (call : ClientCall) (h port : ℕ) (said : Said)
+    → meaning (said_kind said) (line_values (Client call h port said)) ≡ called (said_kind said) call (record { host = h; port = port }) (said_values said)
+call-means call h port Done = ap (λ o. where_known CallDone o (record { host = h; port = port }) []) (call-named call)
+call-means call h port (Refused (Busy count)) = ap (λ o. where_known CallUnfinished o (record { host = h; port = port }) (said_values (Refused (Busy count)))) (call-named call)
+call-means call h port said = ap (λ o. where_known (said_kind said) o (record { host = h; port = port }) (said_values said)) (call-named call)
 
 -- a line that may answer such a command
 says-quiet : (n : Network) (c : Command) (l : Line) (r : ReportLine) → HasNoCalls c → Says n l r → may_answer c r ≡ true → IsQuietLine l
-says-quiet n c l r none (call_line call h port s q there low says) may = absurd (no-call-says c none says may)
-says-quiet n c l r none (tokens_line h port sends recvs there low first second) may = record { received = λ i p. refl; answers = refl }
-says-quiet n c l r none (walk_line place there) may = record { received = λ i p. refl; answers = refl }
-says-quiet n c l r none (map_line h words a b there) may = record { received = λ i p. refl; answers = refl }
-says-quiet n c l r none (busy_line h there) may = record { received = λ i p. refl; answers = refl }
-says-quiet n c l r none (circuit_line h depth a there fits) may = record { received = λ i p. refl; answers = refl }
-says-quiet n c l r none (nodes_line h a there) may = record { received = λ i p. refl; answers = refl }
-says-quiet n c l r none (routes_line count fits) may = record { received = λ i p. refl; answers = refl }
-says-quiet n c l r none (says_route from to walk sender receiver fine) may = record { received = λ i p. refl; answers = refl }
-says-quiet n c l r none (says_rank v p rank there turn fits) may = record { received = λ i p. refl; answers = refl }
-says-quiet n c l r none end_of_routes may = record { received = λ i p. refl; answers = refl }
-says-quiet n c l r none no_map may = record { received = λ i p. refl; answers = refl }
-says-quiet n c l r none (installed_line acked count most fits) may = record { received = λ i p. refl; answers = refl }
-says-quiet n c l r none (table_line h active there) may = record { received = λ i p. refl; answers = refl }
-says-quiet n c l r none (install_refused cause) may = record { received = λ i p. refl; answers = refl }
-says-quiet n c l r none (plan_line number) may = record { received = λ i p. refl; answers = refl }
-says-quiet n c l r none (step_line words there) may = record { received = λ i p. refl; answers = refl }
-says-quiet n c l r none (settle_line rounds resets unacked) may = record { received = λ i p. refl; answers = refl }
-says-quiet n c l r none (finish_line injected dropped) may = record { received = λ i p. refl; answers = refl }
-says-quiet n c l r none (pull_line e done there) may = record { received = λ i p. refl; answers = refl }
-says-quiet n c l r none (plug_line a b words one other) may = record { received = λ i p. refl; answers = refl }
-says-quiet n c l r none (revoked_line count) may = record { received = λ i p. refl; answers = refl }
-says-quiet n c l r none (broken_line from to sender receiver other) may = record { received = λ i p. refl; answers = refl }
-says-quiet n c l r none (broken_names from to sender receiver same) may = record { received = λ i p. refl; answers = refl }
-says-quiet n c l r none end_of_broken may = record { received = λ i p. refl; answers = refl }
-says-quiet n c l r none no_broken may = record { received = λ i p. refl; answers = refl }
+says-quiet n c l r none (by_row (Client call h port said) q fits apart means) may =
+    absurd (none-called c none (record { host = h; port = port }) r said call (sym (call-means call h port said) ∙ means) may)
+says-quiet n c l r none _ may = record { received = λ i p. refl; answers = refl }
 
 -- and the pieces of its answer
 pub answer-quiet : (n : Network) (k : Known) (out : List Piece) (c : Command) (a : Answer) → is_of_network c ≡ true → IsPrintedAnswer n k out c a → IsQuiet out

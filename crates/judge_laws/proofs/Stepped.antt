@@ -37,8 +37,8 @@ use Rattle.world_defs.specs.Hearing.{hear}
 use Rattle.world_defs.specs.Step.{step}
 use Rattle.world_defs.proofs.Views.{Change, LinksChange, HostChange, ArrivalChange, view}
 use Rattle.run_defs.specs.Outcome.{tail_of, words_of}
-use Rattle.judge_laws.specs.Lines.{AreWordsIn}
 use Rattle.judge_laws.proofs.Doing.{end-same}
+use Rattle.judge_laws.proofs.Fits.{AreWordsIn}
 
 -- what holds of the ends of all cables that pass a test holds of one that does
 of-passing : (P : End → Type 0) (test : Wire → Bool) (ws : List Wire) (i : ℕ) (w : Wire) → AllByRecursion P (ends_of (map (λ x. x.cable) (filter test ws))) → slice_get ws i ≡ Some w → test w ≡ true → P w.cable.a × P w.cable.b

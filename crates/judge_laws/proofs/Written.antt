@@ -12,8 +12,7 @@ use Rattle.fabric_file.specs.Plain.{ArePlain}
 use Rattle.fabric_file.proofs.PlainLines.{words-spaced, left-printed}
 use Rattle.judge_laws.specs.Lines.{Says}
 use Rattle.judge_laws.specs.Laws.{IsFirstLine}
-use Rattle.judge_laws.proofs.Fits.{line-plain, line-begins}
-use Rattle.judge_laws.proofs.Reading.{line-read}
+use Rattle.judge_laws.proofs.Reading.{line-plain, line-begins, line-read}
 
 -- a line of words
 words-first : (n : Network) (r : ReportLine) (ws : List (List ℕ)) (number : ℕ) (rest : List ℕ) → ArePlain ws → says_nothing ws ≡ false → line_said n ws ≡ Some r

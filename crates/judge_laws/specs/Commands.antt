@@ -1,5 +1,6 @@
 -- What is known by the answers so far is what a session holds.
-use Rattle.std.specs.Prelude.{◌≡◌, Bool, true, false, List, [], ◌∷◌, Option, Some, None, option_map, is_some}
+use Rattle.std.specs.Prelude.{◌≡◌, Bool, true, false, ◌&&◌, List, [], ◌∷◌, Option, Some, None, option_map, is_some}
+use Rattle.std.specs.Prelude.{is_none}
 use Rattle.std.specs.List.{AllByRecursion}
 use Rattle.net_defs.specs.Network.{Network, IsFabric}
 use Rattle.map_defs.specs.NetMap.{NetMap}
@@ -9,8 +10,7 @@ use Rattle.world_defs.specs.declared.fault.Fault.{Fault}
 use Rattle.world_defs.specs.declared.fault.Fault.TheVariants.{Pull as PullFault}
 use Rattle.world_defs.specs.World.{WorldState, fabric_of}
 use Rattle.run_defs.specs.declared.command.Command.{Command}
-use Rattle.run_defs.specs.declared.command.Command.TheVariants.{Walk, Map, Circuit, Routes, Install, Plan, Settle}
-use Rattle.run_defs.specs.declared.command.Command.TheVariants.{Step, Finish, Pull, Plug, Revoke, Broken, Duo}
+use Rattle.run_defs.specs.declared.command.Command.TheVariants.{Plan, Duo}
 use Rattle.run_defs.specs.declared.line.MapWords.{MapWords}
 use Rattle.run_defs.specs.declared.line.MapWords.TheVariants.{Complete, Doubtful, IncompleteDepth, IncompleteNodes}
 use Rattle.run_defs.specs.Outcome.{fault_of}
@@ -21,7 +21,7 @@ use Rattle.port_ledgers.specs.Told.{Told}
 use Rattle.answer_defs.specs.Answer.{Answer, Answered, answered, complete_map, shown_map, routed_hosts, are_adopted}
 use Rattle.answer_defs.specs.Answer.{fabric_by, told_in}
 use Rattle.answer_defs.specs.Right.{MapIsTrue, RoutesAreTrue, GivesLength, PlacesAreTrue}
-use Rattle.judge_defs.specs.Form.{known_by}
+use Rattle.judge_defs.specs.Form.{call_of, known_by}
 use Rattle.judge_laws.specs.Answers.{IsPrintedAnswer}
 
 -- a map that has lines under these words
@@ -77,27 +77,14 @@ pub record IsAnsweredBy (n : Network) (before : List Answered) (s : SessionState
   pub fabric : HasNoPull s.world → PlansNoPull c → fabric_by a (fabric_of s.world) ≡ fabric_of next.world
   pub unpulled : HasNoPull s.world → PlansNoPull c → HasNoPull next.world
 
--- Commands of the network: no call of a client, and none of the two hosts that restart.
-abbrev pub is_of_network : Command → Bool
-is_of_network (Walk host walk) = true
-is_of_network (Map host depth tries) = true
-is_of_network (Circuit host depth) = true
-is_of_network Routes = true
-is_of_network (Install tries) = true
-is_of_network (Plan ahead kind) = true
-is_of_network (Step line) = true
-is_of_network Settle = true
-is_of_network Finish = true
-is_of_network (Pull at) = true
-is_of_network (Plug a b) = true
-is_of_network Revoke = true
-is_of_network Broken = true
-is_of_network c = false
-
 -- Commands whose answers are judged: all but those of the two hosts that restart.
 abbrev pub is_judged : Command → Bool
 is_judged (Duo event) = false
 is_judged c = true
+
+-- Commands of the network: those that are judged and are no call of a client.
+abbrev pub is_of_network : Command → Bool
+is_of_network c = is_judged c && is_none (call_of c)
 
 -- After every run over a fabric with names of the text's form, what the next such command prints is a right answer, and
 -- what is known after it is what the next session holds.

@@ -4,7 +4,7 @@
 //!
 //! | file of `specs/` | says |
 //! |---|---|
-//! | `Lines` | what each printed line says, as far as it is judged |
+//! | `Lines` | what a printed line says, as far as it is judged: what the values of its row mean |
 //! | `Answers` | which pieces of a report are the answer of a command, and what answer they are |
 //! | `Commands` | what is known by the answers so far, and that what commands of the network print is an answer |
 //! | `Reports` | that texts are judged yes with the report of their run |

@@ -1,4 +1,4 @@
-mod Apart
+pub mod Apart
 pub mod Bytes
 pub mod Filled
 pub mod Numbers

@@ -2,7 +2,10 @@
 use Rattle.std.proofs.Common.{◌≡◌, ℕ, List, [], ◌∷◌, ◌++◌, Option, Some, None, option_and_then}
 use Rattle.std.proofs.Common.{refl, sym, ap, ◌∙◌, append_assoc}
 use Rattle.line_table.specs.Said.{byte_said, pairs_said}
-use Rattle.report_lines.specs.Bytes.{after_bytes}
+
+-- bytes after others
+abbrev pub after_bytes : List ℕ → Option (List ℕ) → Option (List ℕ)
+after_bytes done more = option_and_then (λ xs. Some (done ++ xs)) more
 
 -- a byte in front of others, after those that were read
 after-one : (done : List ℕ) (x : ℕ) (more : Option (List ℕ))

@@ -1,6 +1,4 @@
-pub mod Bytes
-pub mod Places
-pub mod Calls
 pub mod Lines
-pub mod Words
-pub mod Forms
+pub mod Meaning
+pub mod Reading
+pub mod Slots

@@ -1,20 +1,41 @@
-//! Lines of client calls, after the word of the call: `H P`, and a refusal or an answer.
+//! Lines of client calls, after the call and its port: a refusal or an answer.
 
-ghost use Rattle.std.specs.Prelude.{◌≡◌, option_map};
+ghost use Rattle.std.specs.Prelude.{◌≡◌, ◌∷◌, [], codes, IfSome, None, map};
+ghost use Rattle.net_defs.specs.Network.{empty_network};
 ghost use Rattle.fab_text.specs.Line.{words_of};
-ghost use Rattle.report_lines.specs.declared.line.ReportLine.{ReportLine};
-ghost use Rattle.report_lines.specs.Calls.{port_said, is_cause_of, is_cause, refused_said, opened_said, one_value};
-ghost use Rattle.report_lines.specs.Calls.{closed_said, token_said, token_of, call_named};
-ghost use Rattle.report_lines.specs.Calls.{is_close_cause, is_provide_cause, is_send_cause};
+ghost use Rattle.line_table.specs.declared.kind.LineKind.TheVariants.{CallDone, CallCounted, CallToken, CallRefused};
+ghost use Rattle.line_table.specs.declared.kind.LineKind.TheVariants.{CallUnfinished};
+ghost use Rattle.line_table.specs.Matching.{matched};
+ghost use Rattle.line_table.specs.Table.{form_of};
+ghost use Rattle.run_defs.specs.LineRows.{call_word};
+ghost use Rattle.report_lines.specs.Meaning.{call_kinds, call_named, causes_of, refused_for, token_of};
+ghost use Rattle.report_lines.specs.Reading.{after_call, port_said};
 
-use crate::{ReportLine, host, is_count, is_empty, small, value};
-use fab_text::Words;
+use crate::ReportLine;
+use crate::word::{host, is_among, is_number, is_same, small, value};
+use fab_text::{Words, words};
 use port_graph::Fabric;
 use port_ledgers::PortName;
 use run_defs::ClientCall;
 
 // The greatest port of a host.
 const MAX_PORT: u8 = 7;
+
+// The causes for which calls may be refused, where nothing is counted.
+static CAUSES: [&[u8]; 7] = [
+    b"already", b"notopen", b"notoken", b"toolong", b"noroute", b"spent", b"badsize",
+];
+
+// The causes that count what is unfinished.
+static UNFINISHED: [&[u8]; 3] = [b"busy", b"unread", b"filling"];
+
+static OF_OPEN: [&[u8]; 1] = [b"already"];
+
+static OF_PROVIDE: [&[u8]; 3] = [b"notopen", b"notoken", b"badsize"];
+
+static OF_SEND: [&[u8]; 5] = [b"notopen", b"notoken", b"toolong", b"noroute", b"spent"];
+
+static OF_OTHERS: [&[u8]; 1] = [b"notopen"];
 
 /// The call that a word names.
 pub(crate) fn call_named(word: &[u8]) -> Option<ClientCall>
@@ -50,142 +71,139 @@ pub(crate) fn port(fabric: &Fabric, h: &[u8], p: &[u8]) -> Option<PortName>
     }
 }
 
-/// `CAUSE`, after the word `refused`.
-pub(crate) fn refused(call: ClientCall, port: PortName, mut args: Words) -> Option<ReportLine>
-    ensures { result ≡ refused_said call port (words_of args.entry) }
+/// `done`, or a refusal.
+pub(crate) fn opened(port: PortName, mut args: Words) -> Option<ReportLine>
+    ensures { result ≡ after_call empty_network ClientCall.Begin port (call_kinds ClientCall.Begin)
+        (words_of args.entry) }
 {
+    let word = args.next_word()?;
+    if is_same(word, b"refused".as_slice()) {
+        return refused(ClientCall::Begin, port, args);
+    }
+    if !is_same(word, b"done".as_slice()) {
+        return None;
+    }
     match args.next_word() {
-        Some(cause) if is_cause(call, cause, args) => Some(ReportLine::CallRefused { call, port }),
+        None => Some(ReportLine::Opened(port)),
+        Some(_) => None,
+    }
+}
+
+/// `done N`, or a refusal, which may count what is unfinished.
+pub(crate) fn closed(port: PortName, mut args: Words) -> Option<ReportLine>
+    ensures { result ≡ after_call empty_network ClientCall.Close port (call_kinds ClientCall.Close)
+        (words_of args.entry) }
+{
+    let word = args.next_word()?;
+    if is_same(word, b"refused".as_slice()) {
+        return not_closed(port, args);
+    }
+    if !is_same(word, b"done".as_slice()) {
+        return None;
+    }
+    let count = value(args.next_word()?)?;
+    match args.next_word() {
+        None => Some(ReportLine::Closed { port, count }),
+        Some(_) => None,
+    }
+}
+
+// `CAUSE` or `CAUSE N`, after the word `refused` of a close
+fn not_closed(port: PortName, mut args: Words) -> Option<ReportLine>
+    ensures { result ≡ after_call empty_network ClientCall.Close port (CallRefused ∷ CallUnfinished ∷ [])
+        (codes "refused" ∷ words_of args.entry) }
+{
+    let cause = args.next_word()?;
+    if !is_among(&CAUSES, cause) {
+        return unfinished(port, cause, args);
+    }
+    match words(args.rest()).next_word() {
+        None => refused_for(ClientCall::Close, port, cause),
+        Some(_) => unfinished(port, cause, args),
+    }
+}
+
+// A cause that counts what is unfinished.
+fn unfinished(port: PortName, cause: &[u8], mut args: Words) -> Option<ReportLine>
+    ensures { result ≡ after_call empty_network ClientCall.Close port (CallUnfinished ∷ [])
+        (codes "refused" ∷ cause.now ∷ words_of args.entry) }
+{
+    if !is_among(&UNFINISHED, cause) {
+        return None;
+    }
+    if !is_number(args.next_word()?) {
+        return None;
+    }
+    let call = ClientCall::Close;
+    match args.next_word() {
+        None => Some(ReportLine::CallRefused { call, port }),
+        Some(_) => None,
+    }
+}
+
+/// `token T`, or a refusal.
+pub(crate) fn took(call: ClientCall, port: PortName, mut args: Words) -> Option<ReportLine>
+    ensures { result ≡ after_call empty_network call port (CallToken ∷ CallRefused ∷ []) (words_of args.entry) }
+{
+    let word = args.next_word()?;
+    if is_same(word, b"refused".as_slice()) {
+        return refused(call, port, args);
+    }
+    if !is_same(word, b"token".as_slice()) {
+        return None;
+    }
+    let token = value(args.next_word()?)?;
+    match args.next_word() {
+        None => token_of(call, port, token),
+        Some(_) => None,
+    }
+}
+
+// The number of a token that a call took.
+fn token_of(call: ClientCall, port: PortName, token: u64) -> Option<ReportLine>
+    ensures { result ≡ token_of call port token }
+{
+    match call {
+        ClientCall::Provide => Some(ReportLine::Provided { port, token }),
+        ClientCall::Send => Some(ReportLine::Accepted { port, token }),
         _ => None,
     }
 }
 
-// Whether a call may be refused for this cause.
-fn is_cause(call: ClientCall, cause: &[u8], args: Words) -> bool
-    ensures { result ≡ is_cause call cause.now (words_of args.entry) }
+/// `CAUSE`, after the word `refused`.
+pub(crate) fn refused(call: ClientCall, port: PortName, mut args: Words) -> Option<ReportLine>
+    ensures { result ≡ after_call empty_network call port (CallRefused ∷ [])
+        (codes "refused" ∷ words_of args.entry) }
 {
-    match call {
-        ClientCall::Begin => cause == b"already".as_slice() && is_empty(args),
-        _ => {
-            if cause == b"notopen".as_slice() {
-                is_empty(args)
-            } else {
-                is_cause_of(call, cause, args)
-            }
-        }
-    }
-}
-
-// The same of a call of an open port.
-fn is_cause_of(call: ClientCall, cause: &[u8], args: Words) -> bool
-    ensures { result ≡ is_cause_of call cause.now (words_of args.entry) }
-{
-    match call {
-        ClientCall::Close => is_close_cause(cause) && is_count(args),
-        ClientCall::Provide => is_provide_cause(cause) && is_empty(args),
-        ClientCall::Send => is_send_cause(cause) && is_empty(args),
-        _ => false,
-    }
-}
-
-// Why an open port isn't closed.
-fn is_close_cause(w: &[u8]) -> bool
-    ensures { result ≡ is_close_cause w.now }
-{
-    w == b"busy".as_slice() || w == b"unread".as_slice() || w == b"filling".as_slice()
-}
-
-// Why a token isn't provided.
-fn is_provide_cause(w: &[u8]) -> bool
-    ensures { result ≡ is_provide_cause w.now }
-{
-    w == b"notoken".as_slice() || w == b"badsize".as_slice()
-}
-
-// Why a message isn't accepted.
-fn is_send_cause(w: &[u8]) -> bool
-    ensures { result ≡ is_send_cause w.now }
-{
-    w == b"notoken".as_slice()
-        || w == b"toolong".as_slice()
-        || w == b"noroute".as_slice()
-        || w == b"spent".as_slice()
-}
-
-/// `done`
-pub(crate) fn opened(port: PortName, word: &[u8], args: Words) -> Option<ReportLine>
-    ensures { result ≡ opened_said port word.now (words_of args.entry) }
-{
-    if word == b"done".as_slice() && is_empty(args) {
-        Some(ReportLine::Opened(port))
-    } else {
-        None
-    }
-}
-
-/// `done N`
-pub(crate) fn closed(port: PortName, word: &[u8], args: Words) -> Option<ReportLine>
-    ensures { result ≡ closed_said port word.now (words_of args.entry) }
-{
-    if word != b"done".as_slice() {
+    let cause = args.next_word()?;
+    if !is_among(&CAUSES, cause) {
         return None;
     }
-    match one_value(args) {
-        Some(count) => Some(ReportLine::Closed { port, count }),
-        None => None,
-    }
-}
-
-// The number of the one word that is left.
-fn one_value(args: Words) -> Option<u64>
-    ensures { result ≡ one_value (words_of args.entry) }
-{
-    match args.one() {
-        Some(w) => value(w),
-        None => None,
-    }
-}
-
-/// `token T` of a receive token.
-pub(crate) fn provided(port: PortName, word: &[u8], args: Words) -> Option<ReportLine>
-    ensures { result ≡ option_map (ReportLine.Provided port) (token_said word.now (words_of args.entry)) }
-{
-    match token(word, args) {
-        Some(token) => Some(ReportLine::Provided { port, token }),
-        None => None,
-    }
-}
-
-/// `token T` of a send token.
-pub(crate) fn accepted(port: PortName, word: &[u8], args: Words) -> Option<ReportLine>
-    ensures { result ≡ option_map (ReportLine.Accepted port) (token_said word.now (words_of args.entry)) }
-{
-    match token(word, args) {
-        Some(token) => Some(ReportLine::Accepted { port, token }),
-        None => None,
-    }
-}
-
-/// `token T`, after the word `sent`.
-pub(crate) fn returned(port: PortName, mut args: Words) -> Option<ReportLine>
-    ensures { result ≡ option_map (ReportLine.Returned port) (token_of (words_of args.entry)) }
-{
     match args.next_word() {
-        Some(word) => match token(word, args) {
-            Some(token) => Some(ReportLine::Returned { port, token }),
-            None => None,
-        },
-        None => None,
+        None => refused_for(call, port, cause),
+        Some(_) => None,
     }
 }
 
-// `token T`
-fn token(word: &[u8], args: Words) -> Option<u64>
-    ensures { result ≡ token_said word.now (words_of args.entry) }
+// A refusal, where the call may be refused for this cause.
+fn refused_for(call: ClientCall, port: PortName, cause: &[u8]) -> Option<ReportLine>
+    ensures { result ≡ refused_for call port cause.now }
 {
-    if word == b"token".as_slice() {
-        one_value(args)
+    if is_among(causes_of(call), cause) {
+        Some(ReportLine::CallRefused { call, port })
     } else {
         None
+    }
+}
+
+// The causes for which a call may be refused, where nothing is counted.
+fn causes_of(call: ClientCall) -> &'static [&'static [u8]]
+    ensures { map (λ w. w.now) result.now ≡ causes_of call }
+{
+    match call {
+        ClientCall::Begin => &OF_OPEN,
+        ClientCall::Provide => &OF_PROVIDE,
+        ClientCall::Send => &OF_SEND,
+        _ => &OF_OTHERS,
     }
 }

@@ -1,8 +1,9 @@
 //! One line of a report, read by its words: what it says, as far as anything of it is judged.
 //!
-//! It judges nothing: a line that says what can't be is read like any other. `specs/Lines.antt` says which words are a
-//! line and what they say; `specs/Calls.antt` has the lines of client calls, `specs/Forms.antt` the others, and
-//! `specs/Said.antt` of `line_table` what single words say.
+//! It judges nothing: a line that says what can't be is read like any other. `specs/Lines.antt` says what words say:
+//! the meaning of the first row of the table of lines that they have, of the rows that begin with their first word;
+//! `specs/Meaning.antt` which these are, and what their values mean; `specs/Reading.antt` what the parts of the code
+//! read.
 //!
 //! ```text
 //!   map a complete asks 31 packets 60      Map { host: 0, said: Complete }     how many asks isn't judged
@@ -16,15 +17,15 @@
 //! | module | has |
 //! |---|---|
 //! | `line` | what a line says |
-//! | `reading` | a line by its first word |
-//! | `by_word` | a line of no client call by its first word |
+//! | `reading`, `by_word` | a line by its first word: a call, or another word |
 //! | `maps` | lines of maps, circuits, ranks and installations |
 //! | `route_line` | the line of a route |
 //! | `cables` | lines of cables, and of routes that they break |
 //! | `calls` | lines of client calls |
 //! | `polls` | lines of `poll` and `tokens` |
 //! | `places` | where tokens are |
-//! | `forms` | lines of which only the form is judged |
+//! | `forms` | lines of which only the form is judged, as lists of slots |
+//! | `form`, `slot` | whether words have such a form, and what it is made of |
 //! | `word`, `bytes` | single words: hosts, ends, numbers, vertices of a map; the bytes of a message |
 #![tactic(auto)]
 
@@ -32,6 +33,7 @@ mod by_word;
 mod bytes;
 mod cables;
 mod calls;
+mod form;
 mod forms;
 mod line;
 mod maps;
@@ -39,11 +41,10 @@ mod places;
 mod polls;
 mod reading;
 mod route_line;
+mod slot;
 mod word;
 
-pub(crate) use by_word::read_other;
 pub use line::{MapSaid, PlacesSaid, ReceivedLine, ReportLine, TokensLine};
 pub use reading::read_line;
-pub(crate) use route_line::read_route;
+pub use slot::{Slot, WordKind};
 pub use word::host;
-pub(crate) use word::{is_count, is_empty, small, value};

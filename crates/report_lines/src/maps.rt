@@ -1,250 +1,217 @@
 //! Lines of maps, circuits, ranks and installations, after their first word.
 
-ghost use Rattle.std.specs.Prelude.{◌≡◌};
+ghost use Rattle.std.specs.Prelude.{◌≡◌, ◌∷◌, [], codes, Some, None};
+ghost use Rattle.net_defs.specs.Network.{empty_network};
 ghost use Rattle.fab_text.specs.Line.{words_of};
-ghost use Rattle.report_lines.specs.Forms.{are_counts, map_line, doubtful_said, incomplete_said, map_of_host, map_said};
-ghost use Rattle.report_lines.specs.Forms.{known_by, are_asks, circuit_line, depth_said, circuit_of_host, circuit_said};
-ghost use Rattle.report_lines.specs.Forms.{routes_said, rank_said};
-ghost use Rattle.report_lines.specs.Forms.{installed_where, installed_said, active_said, table_said, is_only, where_so};
+ghost use Rattle.line_table.specs.declared.kind.LineKind.TheVariants.{MapComplete, MapDoubtful, MapDepth, MapNodes};
+ghost use Rattle.line_table.specs.declared.kind.LineKind.TheVariants.{MapBusy, CircuitDepth, CircuitNodes, Routes};
+ghost use Rattle.line_table.specs.declared.kind.LineKind.TheVariants.{NoMap, Rank, Installed, Table};
+ghost use Rattle.report_lines.specs.Lines.{first_said, said_as};
+ghost use Rattle.line_table.specs.Form.{HostAt};
+ghost use Rattle.line_table.specs.Matching.{matched, onto};
+ghost use Rattle.report_lines.specs.Meaning.{installed_where};
+ghost use Rattle.report_lines.specs.Reading.{counts, map_kind, rest_said};
 
+use crate::form::formed;
+use crate::forms::{COUNTS, NO_MAP};
 use crate::line::{MapSaid, ReportLine};
-use crate::word::{host, is_empty, is_number, three, turn, value, vertex};
+use crate::word::{host, is_number, is_same, turn, value, vertex};
 use fab_text::Words;
 use port_graph::Fabric;
 
-/// `H WORDS asks A packets N` or `H refused busy`.
+/// `H WORDS asks A packets N` or `H refused busy`, after the word `map`.
 pub(crate) fn map(fabric: &Fabric, mut args: Words) -> Option<ReportLine>
-    ensures { result ≡ map_said fabric.now (words_of args.entry) }
+    ensures { result ≡ first_said fabric.now (MapComplete ∷ MapDoubtful ∷ MapDepth ∷ MapNodes ∷ MapBusy ∷ [])
+        (codes "map" ∷ words_of args.entry) }
 {
-    let (Some(h), Some(word)) = (args.next_word(), args.next_word()) else {
+    let host = host(fabric, args.next_word()?)?;
+    let word = args.next_word()?;
+    if is_same(word, b"complete".as_slice()) {
+        counted(fabric, host, MapSaid::Complete, args)
+    } else if is_same(word, b"doubtful".as_slice()) {
+        doubtful(fabric, host, args)
+    } else if is_same(word, b"incomplete".as_slice()) {
+        incomplete(fabric, host, args)
+    } else if is_same(word, b"refused".as_slice()) {
+        busy(host, args)
+    } else {
+        None
+    }
+}
+
+// `asks A packets N`, after the words that say how far the map is known to be right
+#[tactic(auto, using(crate::proofs::Told::told_one))]
+fn counted(fabric: &Fabric, host: u16, said: MapSaid, args: Words) -> Option<ReportLine>
+    ensures { result ≡ said_as None (map_kind said)
+        (onto (Some (HostAt host)) (matched fabric.now counts (words_of args.entry))) None }
+{
+    formed(fabric, ReportLine::Map { host, said }, &COUNTS, args.rest())
+}
+
+// `N asks A packets M`, after the word `doubtful`
+#[tactic(auto, using(crate::proofs::Told::told_two))]
+fn doubtful(fabric: &Fabric, host: u16, mut args: Words) -> Option<ReportLine>
+    ensures { result ≡ rest_said fabric.now (MapDoubtful ∷ []) 3 (HostAt host ∷ []) (words_of args.entry) }
+{
+    if !is_number(args.next_word()?) {
         return None;
-    };
-    match host(fabric, h) {
-        Some(host) => map_of_host(host, word, args),
-        None => None,
     }
+    let said = MapSaid::Doubtful;
+    formed(fabric, ReportLine::Map { host, said }, &COUNTS, args.rest())
 }
 
-// The same after the host.
-fn map_of_host(host: u16, word: &[u8], args: Words) -> Option<ReportLine>
-    ensures { result ≡ map_of_host host word.now (words_of args.entry) }
+// `depth asks A packets M` or `nodes asks A packets M`, after the word `incomplete`
+fn incomplete(fabric: &Fabric, host: u16, mut args: Words) -> Option<ReportLine>
+    ensures { result ≡ rest_said fabric.now (MapDepth ∷ MapNodes ∷ []) 3 (HostAt host ∷ []) (words_of args.entry) }
 {
-    if word == b"complete".as_slice() {
-        map_line(host, Some(MapSaid::Complete), args)
-    } else if word == b"doubtful".as_slice() {
-        doubtful(host, args)
-    } else if word == b"incomplete".as_slice() {
-        incomplete(host, args)
-    } else if word == b"refused".as_slice() {
-        where_so(ReportLine::MapBusy(host), is_only(b"busy".as_slice(), args))
+    let cause = args.next_word()?;
+    if is_same(cause, b"depth".as_slice()) {
+        counted(fabric, host, MapSaid::Shallow, args)
+    } else if is_same(cause, b"nodes".as_slice()) {
+        counted(fabric, host, MapSaid::Overgrown, args)
     } else {
         None
     }
 }
 
-// `N asks A packets M`
-fn doubtful(host: u16, mut args: Words) -> Option<ReportLine>
-    ensures { result ≡ doubtful_said host (words_of args.entry) }
+// `busy`, after the word `refused`
+fn busy(host: u16, mut args: Words) -> Option<ReportLine>
+    ensures { result ≡ rest_said empty_network (MapBusy ∷ []) 3 (HostAt host ∷ []) (words_of args.entry) }
 {
+    if !is_same(args.next_word()?, b"busy".as_slice()) {
+        return None;
+    }
     match args.next_word() {
-        Some(word) if is_number(word) => map_line(host, Some(MapSaid::Doubtful), args),
-        _ => None,
+        None => Some(ReportLine::MapBusy(host)),
+        Some(_) => None,
     }
 }
 
-// `depth asks A packets M` or `nodes asks A packets M`
-fn incomplete(host: u16, mut args: Words) -> Option<ReportLine>
-    ensures { result ≡ incomplete_said host (words_of args.entry) }
-{
-    match args.next_word() {
-        Some(word) => map_line(host, known_by(word), args),
-        None => None,
-    }
-}
-
-// How far a map is known to be right by the word after `incomplete`.
-fn known_by(word: &[u8]) -> Option<MapSaid>
-    ensures { result ≡ known_by word.now }
-{
-    if word == b"depth".as_slice() {
-        Some(MapSaid::Shallow)
-    } else if word == b"nodes".as_slice() {
-        Some(MapSaid::Overgrown)
-    } else {
-        None
-    }
-}
-
-// A map, where its counts follow.
-fn map_line(host: u16, said: Option<MapSaid>, args: Words) -> Option<ReportLine>
-    ensures { result ≡ map_line host said (words_of args.entry) }
-{
-    match said {
-        Some(said) if are_counts(args) => Some(ReportLine::Map { host, said }),
-        _ => None,
-    }
-}
-
-// Whether `asks A packets N` is left.
-fn are_counts(args: Words) -> bool
-    ensures { result ≡ are_counts (words_of args.entry) }
-{
-    match args.four() {
-        Some(((a, asks), (p, packets))) => {
-            a == b"asks".as_slice()
-                && is_number(asks)
-                && p == b"packets".as_slice()
-                && is_number(packets)
-        }
-        None => false,
-    }
-}
-
-/// The line, where its form is right.
-pub(crate) fn where_so(line: ReportLine, is: bool) -> Option<ReportLine>
-    ensures { result ≡ where_so line is }
-{
-    if is { Some(line) } else { None }
-}
-
-/// Whether one word is left, which is this one.
-pub(crate) fn is_only(word: &[u8], args: Words) -> bool
-    ensures { result ≡ is_only word.now (words_of args.entry) }
-{
-    match args.one() {
-        Some(left) => left == word,
-        None => false,
-    }
-}
-
-/// `H depth D asks A` or `H nodes asks A`.
+/// `H depth D asks A` or `H nodes asks A`, after the word `circuit`.
 pub(crate) fn circuit(fabric: &Fabric, mut args: Words) -> Option<ReportLine>
-    ensures { result ≡ circuit_said fabric.now (words_of args.entry) }
+    ensures { result ≡ first_said fabric.now (CircuitDepth ∷ CircuitNodes ∷ [])
+        (codes "circuit" ∷ words_of args.entry) }
 {
-    let (Some(h), Some(word)) = (args.next_word(), args.next_word()) else {
-        return None;
-    };
-    match host(fabric, h) {
-        Some(host) => circuit_of_host(host, word, args),
-        None => None,
-    }
-}
-
-// The same after the host.
-fn circuit_of_host(host: u16, word: &[u8], args: Words) -> Option<ReportLine>
-    ensures { result ≡ circuit_of_host host word.now (words_of args.entry) }
-{
-    if word == b"depth".as_slice() {
+    let host = host(fabric, args.next_word()?)?;
+    let word = args.next_word()?;
+    if is_same(word, b"depth".as_slice()) {
         to_depth(host, args)
-    } else if word == b"nodes".as_slice() {
-        where_so(ReportLine::CircuitNodes(host), are_asks(args))
+    } else if is_same(word, b"nodes".as_slice()) {
+        of_nodes(host, args)
     } else {
         None
     }
 }
 
-// `D asks A`
+// `D asks A`, after the word `depth`
 fn to_depth(host: u16, mut args: Words) -> Option<ReportLine>
-    ensures { result ≡ depth_said host (words_of args.entry) }
+    ensures { result ≡ rest_said empty_network (CircuitDepth ∷ []) 3 (HostAt host ∷ []) (words_of args.entry) }
 {
+    let depth = value(args.next_word()?)?;
+    if !is_same(args.next_word()?, b"asks".as_slice()) {
+        return None;
+    }
+    if !is_number(args.next_word()?) {
+        return None;
+    }
     match args.next_word() {
-        Some(word) => match value(word) {
-            Some(depth) => where_so(ReportLine::Circuit { host, depth }, are_asks(args)),
-            None => None,
-        },
-        None => None,
+        None => Some(ReportLine::Circuit { host, depth }),
+        Some(_) => None,
     }
 }
 
-// Whether `asks A` is left.
-fn are_asks(args: Words) -> bool
-    ensures { result ≡ are_asks (words_of args.entry) }
+// `asks A`, after the word `nodes`
+fn of_nodes(host: u16, mut args: Words) -> Option<ReportLine>
+    ensures { result ≡ rest_said empty_network (CircuitNodes ∷ []) 3 (HostAt host ∷ []) (words_of args.entry) }
 {
-    match args.two() {
-        Some((a, asks)) => a == b"asks".as_slice() && is_number(asks),
-        None => false,
-    }
-}
-
-/// `N` or `refused nomap`.
-pub(crate) fn routes(mut args: Words) -> Option<ReportLine>
-    ensures { result ≡ routes_said (words_of args.entry) }
-{
-    let Some(word) = args.next_word() else {
-        return None;
-    };
-    if word == b"refused".as_slice() {
-        return where_so(ReportLine::NoMap, is_only(b"nomap".as_slice(), args));
-    }
-    if !is_empty(args) {
+    if !is_same(args.next_word()?, b"asks".as_slice()) {
         return None;
     }
-    match value(word) {
-        Some(count) => Some(ReportLine::Routes(count)),
-        None => None,
+    if !is_number(args.next_word()?) {
+        return None;
+    }
+    match args.next_word() {
+        None => Some(ReportLine::CircuitNodes(host)),
+        Some(_) => None,
     }
 }
 
-/// `V P R`
-pub(crate) fn rank(fabric: &Fabric, args: Words) -> Option<ReportLine>
-    ensures { result ≡ rank_said fabric.now (words_of args.entry) }
+/// `N` or `refused nomap`, after the word `routes`.
+pub(crate) fn routes(fabric: &Fabric, mut args: Words) -> Option<ReportLine>
+    ensures { result ≡ first_said fabric.now (Routes ∷ NoMap ∷ []) (codes "routes" ∷ words_of args.entry) }
 {
-    match three(args) {
-        Some((v, (p, rank))) => match (vertex(fabric, v), turn(p), value(rank)) {
-            (Some(v), Some(p), Some(rank)) => Some(ReportLine::Rank { v, p, rank }),
-            _ => None,
-        },
-        None => None,
+    let word = args.next_word()?;
+    if is_same(word, b"refused".as_slice()) {
+        return formed(fabric, ReportLine::NoMap, &NO_MAP, args.rest());
+    }
+    let count = value(word)?;
+    match args.next_word() {
+        None => Some(ReportLine::Routes(count)),
+        Some(_) => None,
     }
 }
 
-/// `K of N`
-pub(crate) fn installed(args: Words) -> Option<ReportLine>
-    ensures { result ≡ installed_said (words_of args.entry) }
+/// `V P R`, after the word `rank`.
+pub(crate) fn rank(fabric: &Fabric, mut args: Words) -> Option<ReportLine>
+    ensures { result ≡ first_said fabric.now (Rank ∷ []) (codes "rank" ∷ words_of args.entry) }
 {
-    match three(args) {
-        Some((acked, (of, count))) if of == b"of".as_slice() => {
-            installed_where(value(acked), value(count))
-        }
-        _ => None,
+    let v = vertex(fabric, args.next_word()?)?;
+    let p = turn(args.next_word()?)?;
+    let rank = value(args.next_word()?)?;
+    match args.next_word() {
+        None => Some(ReportLine::Rank { v, p, rank }),
+        Some(_) => None,
     }
 }
 
-// K of N hosts, where both were read and K isn't above N.
-fn installed_where(acked: Option<u64>, count: Option<u64>) -> Option<ReportLine>
+/// `K of N`, after the word `installed`.
+pub(crate) fn installed(fabric: &Fabric, mut args: Words) -> Option<ReportLine>
+    ensures { result ≡ first_said fabric.now (Installed ∷ []) (codes "installed" ∷ words_of args.entry) }
+{
+    let acked = args.next_word()?;
+    if !is_number(acked) {
+        return None;
+    }
+    if !is_same(args.next_word()?, b"of".as_slice()) {
+        return None;
+    }
+    let count = value(args.next_word()?)?;
+    match args.next_word() {
+        None => installed_where(value(acked), count),
+        Some(_) => None,
+    }
+}
+
+// K of N hosts, where K was read and isn't above N.
+fn installed_where(acked: Option<u64>, count: u64) -> Option<ReportLine>
     ensures { result ≡ installed_where acked count }
 {
-    match (acked, count) {
-        (Some(acked), Some(count)) if acked <= count => Some(ReportLine::Installed {
-            acked,
-            count,
-        }),
+    match acked {
+        Some(acked) if acked <= count => Some(ReportLine::Installed { acked, count }),
         _ => None,
     }
 }
 
-/// `H active` or `H none`.
-pub(crate) fn table(fabric: &Fabric, args: Words) -> Option<ReportLine>
-    ensures { result ≡ table_said fabric.now (words_of args.entry) }
+/// `H active` or `H none`, after the word `table`.
+pub(crate) fn table(fabric: &Fabric, mut args: Words) -> Option<ReportLine>
+    ensures { result ≡ first_said fabric.now (Table ∷ []) (codes "table" ∷ words_of args.entry) }
 {
-    match args.two() {
-        Some((h, word)) => match (host(fabric, h), active(word)) {
-            (Some(host), Some(active)) => Some(ReportLine::Table { host, active }),
-            _ => None,
-        },
-        None => None,
+    let host = host(fabric, args.next_word()?)?;
+    let word = args.next_word()?;
+    if is_same(word, b"active".as_slice()) {
+        return match args.next_word() {
+            None => Some(ReportLine::Table { host, active: true }),
+            Some(_) => None,
+        };
     }
-}
-
-// Whether a table is active, by its word.
-fn active(word: &[u8]) -> Option<bool>
-    ensures { result ≡ active_said word.now }
-{
-    if word == b"active".as_slice() {
-        Some(true)
-    } else if word == b"none".as_slice() {
-        Some(false)
-    } else {
-        None
+    if !is_same(word, b"none".as_slice()) {
+        return None;
+    }
+    match args.next_word() {
+        None => Some(ReportLine::Table {
+            host,
+            active: false,
+        }),
+        Some(_) => None,
     }
 }

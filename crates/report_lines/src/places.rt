@@ -2,13 +2,19 @@
 
 ghost use Rattle.std.specs.Prelude.{◌≡◌, IfOk, option_map, nat_eq, position};
 ghost use Rattle.fab_text.specs.Line.{words_of};
-ghost use Rattle.report_lines.specs.Places.{with_client_said, placed, place_said, places_said, both_said};
+ghost use Rattle.line_table.specs.Matching.{entry_of};
 ghost use Rattle.line_table.specs.Said.{value_said};
+ghost use Rattle.line_table.specs.Table.{place};
+ghost use Rattle.report_lines.specs.Reading.{both_said, place_said, places_of, places_said, told_of};
 
-use crate::{PlacesSaid, value};
+use crate::PlacesSaid;
+use crate::word::{is_among, value};
 use fab_text::Words;
 use port_ledgers::ToldPlace;
 use std::alloc::{AllocError, Global};
+
+// Where a token may be.
+static PLACES: [&[u8]; 4] = [b"client", b"queue", b"provided", b"event"];
 
 /// The send tokens up to the word `recv`, and the receive tokens after it.
 pub(crate) fn read_both(
@@ -71,18 +77,6 @@ fn place(word: &[u8]) -> Option<ToldPlace>
     }
 }
 
-// A token by its number and its place.
-fn placed(number: &[u8], place: &[u8]) -> Option<ToldPlace>
-    ensures { result ≡ placed (value_said number.now) (with_client_said place.now) }
-{
-    let number = value(number)?;
-    let with_client = with_client(place)?;
-    Some(ToldPlace {
-        number,
-        with_client,
-    })
-}
-
 // The place of the first `=`.
 fn equals_sign(word: &[u8]) -> Option<usize>
     ensures { result ≡ position (nat_eq 61) word.now }
@@ -90,19 +84,15 @@ fn equals_sign(word: &[u8]) -> Option<usize>
     word.iter().position(|b| b'=' == *b)
 }
 
-// Whether the client has a token, and not its port.
-fn with_client(place: &[u8]) -> Option<bool>
-    ensures { result ≡ with_client_said place.now }
+// A token by its number and its place: with the client, or in one of the port's lists.
+fn placed(number: &[u8], at: &[u8]) -> Option<ToldPlace>
+    ensures { result ≡ told_of (entry_of (places_of place) at.now (value_said number.now)) }
 {
-    if place == b"client".as_slice() {
-        Some(true)
-    } else if place == b"queue".as_slice() {
-        Some(false)
-    } else if place == b"provided".as_slice() {
-        Some(false)
-    } else if place == b"event".as_slice() {
-        Some(false)
-    } else {
-        None
+    match value(number) {
+        Some(number) if is_among(&PLACES, at) => Some(ToldPlace {
+            number,
+            with_client: at == b"client".as_slice(),
+        }),
+        _ => None,
     }
 }

@@ -2,12 +2,14 @@
 
 ghost use Rattle.std.specs.Prelude.{◌≡◌, ◌∷◌, IfOk, Some};
 ghost use Rattle.fab_text.specs.Line.{words_of};
-ghost use Rattle.report_lines.specs.Calls.{call_said, at_port_said, answer_said};
 ghost use Rattle.report_lines.specs.Lines.{line_said};
+ghost use Rattle.report_lines.specs.Meaning.{call_kinds};
+ghost use Rattle.report_lines.specs.Reading.{after_call, call_said};
 
-use crate::calls::{accepted, call_named, closed, opened, port, provided, refused};
+use crate::ReportLine;
+use crate::by_word::read_other;
+use crate::calls::{call_named, closed, opened, port, took};
 use crate::polls::{polled, tokens};
-use crate::{ReportLine, read_other, read_route};
 use fab_text::{Words, words};
 use port_graph::Fabric;
 use port_ledgers::PortName;
@@ -42,17 +44,11 @@ fn read_by(
 {
     match call_named(first) {
         Some(call) => read_call(alloc, fabric, call, args),
-        None => {
-            if first == b"route".as_slice() {
-                read_route(alloc, fabric, args)
-            } else {
-                Ok(read_other(fabric, first, args))
-            }
-        }
+        None => read_other(alloc, fabric, first, args),
     }
 }
 
-// The line of a call.
+// What a call says by the words after its own.
 fn read_call(
     alloc: Global,
     fabric: &Fabric,
@@ -70,40 +66,22 @@ fn read_call(
     }
 }
 
-// What a call of a port says.
+// What a call says of its port.
 fn read_at_port(
     alloc: Global,
     fabric: &Fabric,
     call: ClientCall,
     port: PortName,
-    mut args: Words,
-) -> Result<Option<ReportLine>, AllocError>
-    ensures { IfOk result (λ r. r ≡ at_port_said fabric.now call (Some port) (words_of args.entry)) }
-{
-    match args.next_word() {
-        Some(word) if word == b"refused".as_slice() => Ok(refused(call, port, args)),
-        Some(word) => read_answer(alloc, fabric, (call, port), word, args),
-        None => Ok(None),
-    }
-}
-
-// What a call of a port says that wasn't refused.
-fn read_answer(
-    alloc: Global,
-    fabric: &Fabric,
-    asked: (ClientCall, PortName),
-    word: &[u8],
     args: Words,
 ) -> Result<Option<ReportLine>, AllocError>
-    ensures { IfOk result (λ r. r ≡ answer_said fabric.now asked.0 asked.1 word.now (words_of args.entry)) }
+    ensures { IfOk result (λ r. r ≡ after_call fabric.now call port (call_kinds call) (words_of args.entry)) }
 {
-    let (call, port) = asked;
     match call {
-        ClientCall::Begin => Ok(opened(port, word, args)),
-        ClientCall::Close => Ok(closed(port, word, args)),
-        ClientCall::Provide => Ok(provided(port, word, args)),
-        ClientCall::Send => Ok(accepted(port, word, args)),
-        ClientCall::Poll => polled(alloc, fabric, port, word, args),
-        ClientCall::Tokens => tokens(alloc, port, word, args),
+        ClientCall::Begin => Ok(opened(port, args)),
+        ClientCall::Close => Ok(closed(port, args)),
+        ClientCall::Provide => Ok(took(ClientCall::Provide, port, args)),
+        ClientCall::Send => Ok(took(ClientCall::Send, port, args)),
+        ClientCall::Poll => polled(alloc, fabric, port, args),
+        ClientCall::Tokens => tokens(alloc, fabric, port, args),
     }
 }

@@ -2,7 +2,7 @@
 
 ghost use Rattle.std.specs.Prelude.{◌≡◌, ◌≤◌, length, nat_le, Some, IfOk, IfSome};
 ghost use Rattle.fab_text.specs.Line.{words_of};
-ghost use Rattle.report_lines.specs.Forms.{turns_said, turns_in_front, route_said, route_of};
+ghost use Rattle.report_lines.specs.Reading.{turns_said, turns_in_front, route_said, route_of};
 
 use crate::line::ReportLine;
 use crate::word::{host, turn};
@@ -14,7 +14,7 @@ use std::alloc::{AllocError, Global};
 const MAX_TURNS: usize = 64;
 
 /// `A B TURN ..`, after the word `route`, with at most 64 turns. Memory is taken for the turns.
-pub fn read_route(
+pub(crate) fn read_route(
     alloc: Global,
     fabric: &Fabric,
     mut args: Words,

@@ -1,19 +1,35 @@
 //! Single words: hosts and ends of the fabric, numbers, turns, and vertices of a map.
 
-ghost use Rattle.std.specs.Prelude.{◌≡◌, ◌≤◌, nat_le, IsTrue, IfSome, if◌then◌else◌, option_map};
+ghost use Rattle.std.specs.Prelude.{◌≡◌, ◌≤◌, nat_le, IsTrue, IfSome, if◌then◌else◌, is_some, map, option_map};
 ghost use Rattle.std.specs.List.{list_all};
 ghost use Rattle.std.specs.Str.Parse.{digits_value};
 ghost use Rattle.net_defs.specs.Building.{vertex_named};
-ghost use Rattle.fab_text.specs.Line.{words_of};
 ghost use Rattle.fab_text.specs.Word.{is_digit, number_test};
 ghost use Rattle.line_table.specs.Said.{number_said, value_said, turn_said, host_said, end_said};
-ghost use Rattle.report_lines.specs.Words.{is_end_said};
+ghost use Rattle.line_table.specs.Matching.{is_among};
 ghost use Rattle.line_table.specs.Said.{vertex_said};
-ghost use Rattle.report_lines.specs.Words.{three_of, is_empty, is_count};
+ghost use Rattle.report_lines.specs.Reading.{IsSame};
 
-use fab_text::{Words, read_turn};
+use fab_text::read_turn;
 use map_defs::MapVertex;
 use port_graph::{End, Fabric, Vertex};
+
+/// Whether a word is this text.
+pub(crate) fn is_same(word: &[u8], text: &[u8]) -> bool
+    ensures { IsSame result word.now text.now }
+{
+    word == text
+}
+
+/// Whether a word is one of these.
+pub(crate) fn is_among(words: &[&[u8]], word: &[u8]) -> bool
+    ensures { result ≡ is_among (map (λ w. w.now) words.now) word.now }
+{
+    match words.split_first() {
+        Some((first, others)) => word == *first || is_among(others, word),
+        None => false,
+    }
+}
 
 /// Whether a word is one or more digits: a number of any size.
 #[tactic(auto, using(crate::proofs::Numbers::number_long))]
@@ -97,7 +113,7 @@ pub fn host(fabric: &Fabric, name: &[u8]) -> Option<u16>
 
 /// Whether `V P` is an end of the fabric.
 pub(crate) fn is_end(fabric: &Fabric, v: &[u8], p: &[u8]) -> bool
-    ensures { result ≡ is_end_said fabric.now v.now p.now }
+    ensures { result ≡ is_some (end_said fabric.now v.now p.now) }
 {
     end(fabric, v, p).is_some()
 }
@@ -131,36 +147,6 @@ fn switch(digits: &[u8]) -> Option<MapVertex>
 {
     match number(digits, u64::from(u32::MAX)) {
         Some(k) => Some(MapVertex::Switch(k as u32)),
-        None => None,
-    }
-}
-
-/// Whether no word is left.
-pub fn is_empty(mut left: Words) -> bool
-    ensures { result ≡ is_empty (words_of left.entry) }
-{
-    left.next_word().is_none()
-}
-
-/// Whether one word is left, which is a number.
-pub fn is_count(left: Words) -> bool
-    ensures { result ≡ is_count (words_of left.entry) }
-{
-    match left.one() {
-        Some(w) => is_number(w),
-        None => false,
-    }
-}
-
-/// The three words that are left. None where there are fewer, or more.
-pub(crate) fn three(mut left: Words) -> Option<(&[u8], (&[u8], &[u8]))>
-    ensures { option_map (λ p. (p.0.now, (p.1.0.now, p.1.1.now))) result ≡ three_of (words_of left.entry) }
-{
-    match left.next_word() {
-        Some(first) => match left.two() {
-            Some(others) => Some((first, others)),
-            None => None,
-        },
         None => None,
     }
 }

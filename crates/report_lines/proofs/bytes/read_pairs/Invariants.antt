@@ -1,6 +1,6 @@
 use Rattle.std.proofs.Common.{◌≡◌, length}
 use Rattle.line_table.specs.Said.{pairs_said}
-use Rattle.report_lines.specs.Bytes.{after_bytes}
+use Rattle.report_lines.proofs.Pairs.{after_bytes}
 use Rattle.report_lines.proofs.bytes.read_pairs.Given as goal
 
 abbrev pub invariant-pairs : goal.invariant-pairs

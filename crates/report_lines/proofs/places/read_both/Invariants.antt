@@ -1,6 +1,6 @@
 use Rattle.std.proofs.Common.{◌≡◌, length}
 use Rattle.fab_text.specs.Line.{words_of}
-use Rattle.report_lines.specs.Places.{both_said, after_sends}
+use Rattle.report_lines.specs.Reading.{both_said, after_sends}
 use Rattle.report_lines.proofs.places.read_both.Given as goal
 
 abbrev pub invariant-words : goal.invariant-words

@@ -1,6 +1,6 @@
 use Rattle.std.proofs.Common.{◌≡◌, length}
 use Rattle.fab_text.specs.Line.{words_of}
-use Rattle.report_lines.specs.Places.{places_said, after_places}
+use Rattle.report_lines.specs.Reading.{places_said, after_places}
 use Rattle.report_lines.proofs.places.read_places.Given as goal
 
 abbrev pub invariant-words : goal.invariant-words

@@ -1,6 +1,6 @@
 use Rattle.std.proofs.Common.{◌≡◌, ◌+◌, length, take}
 use Rattle.fab_text.specs.Line.{words_of}
-use Rattle.report_lines.specs.Forms.{turns_said, after_turns}
+use Rattle.report_lines.specs.Reading.{turns_said, after_turns}
 use Rattle.report_lines.proofs.route_line.read_turns.Given as goal
 
 abbrev pub invariant-words : goal.invariant-words
