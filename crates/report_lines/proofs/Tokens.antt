@@ -5,14 +5,14 @@ use Rattle.std.proofs.lemmas.Slice.Eq.{bytes_eq-Decides}
 use Rattle.net_defs.specs.Network.{Network}
 use Rattle.port_ledgers.specs.declared.lane.PortName.{PortName}
 use Rattle.port_ledgers.specs.declared.lane.ToldPlace.{ToldPlace}
-use Rattle.run_defs.specs.declared.line.ClientCall.TheVariants.{Tokens as TokensCall}
 use Rattle.line_table.specs.declared.kind.LineKind.TheVariants.{Tokens}
-use Rattle.line_table.specs.Form.{LineValue, Word, Entry}
+use Rattle.line_table.specs.Form.{LineValue, Word, Number, HostAt, Entry}
 use Rattle.line_table.specs.Matching.{is_among, entry_of, entry_cut, onto, all_said}
 use Rattle.line_table.specs.Said.{value_said}
 use Rattle.line_table.specs.Table.{place}
+use Rattle.report_lines.specs.Lines.{said_as}
 use Rattle.report_lines.specs.Meaning.{both_in, place_of, places_in, tokens_line}
-use Rattle.report_lines.specs.Reading.{both_said, meant_by, place_said, places_of, places_said, told_of}
+use Rattle.report_lines.specs.Reading.{before, both_said, place_said, places_of, places_said, told_of}
 
 some-map : {X Y : Type 0} (f : X → Y) (o : Option X) → option_and_then (λ x. Some (f x)) o ≡ option_map f o
 some-map f None = refl
@@ -91,9 +91,10 @@ both-told n (w ∷ ws) = by (bytes_eq w (codes "recv")) (both-told n ws)
     by false rest =
         one-send (value w false) (entry-shape (places_of place) w (position (nat_eq 61) w)) (all_said n place ws) (both_said ws) rest
 
-pub tokens_told : (n : Network) (a : PortName) (ws : List (List ℕ)) → option_map (tokens_line a) (both_said ws) ≡ meant_by Tokens TokensCall a (all_said n place ws) None
+pub tokens_told : (n : Network) (a : PortName) (ws : List (List ℕ))
+    → option_map (tokens_line a) (both_said ws) ≡ said_as None Tokens (before (HostAt a.host ∷ Number a.port ∷ []) (all_said n place ws)) None
 tokens_told n a ws = ap (option_map (tokens_line a)) (both-told n ws) ∙ by (all_said n place ws)
   where
-    by : (m : Option (List LineValue)) → option_map (tokens_line a) (option_and_then both_in m) ≡ meant_by Tokens TokensCall a m None
+    by : (m : Option (List LineValue)) → option_map (tokens_line a) (option_and_then both_in m) ≡ said_as None Tokens (before (HostAt a.host ∷ Number a.port ∷ []) m) None
     by None = refl
     by (Some vs) = refl

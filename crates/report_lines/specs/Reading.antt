@@ -7,19 +7,20 @@ use Rattle.net_defs.specs.Turn.{walk_refusal}
 use Rattle.port_ledgers.specs.declared.lane.PortName.{PortName}
 use Rattle.port_ledgers.specs.declared.lane.ToldPlace.{ToldPlace}
 use Rattle.run_defs.specs.declared.line.ClientCall.{ClientCall}
-use Rattle.run_defs.specs.declared.line.ClientCall.TheVariants.{Poll}
+use Rattle.run_defs.specs.declared.line.ClientCall.TheVariants.{Poll, Tokens as TokensCall}
+use Rattle.run_defs.specs.LineRows.{call_word}
 use Rattle.line_table.specs.declared.kind.LineKind.{LineKind}
-use Rattle.line_table.specs.declared.kind.LineKind.TheVariants.{CallReceived, MapComplete, MapDoubtful, MapDepth}
-use Rattle.line_table.specs.declared.kind.LineKind.TheVariants.{MapNodes}
-use Rattle.line_table.specs.Form.{WordKind, EntryOr, Slot, LineValue, Entry}
+use Rattle.line_table.specs.declared.kind.LineKind.TheVariants.{CallReceived, CallRefused, MapComplete}
+use Rattle.line_table.specs.declared.kind.LineKind.TheVariants.{MapDoubtful, MapDepth, MapNodes, Tokens}
+use Rattle.line_table.specs.Form.{WordKind, EntryOr, Slot, LineValue, Word, Number, HostAt, Entry}
 use Rattle.line_table.specs.Matching.{entry_cut, onto, matched}
-use Rattle.line_table.specs.Said.{number_said, turn_said, host_said}
+use Rattle.line_table.specs.Said.{turn_said, host_said}
 use Rattle.line_table.specs.Table.{form_of, place}
 use Rattle.report_lines.specs.declared.line.MapSaid.{MapSaid}
 use Rattle.report_lines.specs.declared.line.MapSaid.TheVariants.{Complete, Doubtful, Shallow, Overgrown}
 use Rattle.report_lines.specs.declared.line.ReportLine.{ReportLine}
 use Rattle.report_lines.specs.Lines.{said_as}
-use Rattle.report_lines.specs.Meaning.{call_kinds, called, form_meaning, place_of, route_unless}
+use Rattle.report_lines.specs.Meaning.{form_meaning, place_of, route_unless}
 
 -- a word was compared with a text
 abbrev pub IsSame : Bool → List ℕ → List ℕ → Type 0
@@ -54,40 +55,23 @@ rest_said n [] parts vs ws = None
 rest_said n (k ∷ ks) parts vs ws =
     said_as (form_meaning k) k (before vs (matched n (drop parts (form_of k)) ws)) (rest_said n ks parts vs ws)
 
--- what a call says of its port by values, or else what a later kind says
-abbrev pub meant_by : LineKind → ClientCall → PortName → Option (List LineValue) → Option ReportLine → Option ReportLine
-meant_by k call a None later = later
-meant_by k call a (Some vs) later = called k call a vs
+-- the values of a call and its port
+abbrev pub call_values : ClientCall → PortName → List LineValue
+call_values call a = Word (call_word call) ∷ HostAt a.host ∷ Number a.port ∷ []
 
--- the meaning of the first of these kinds whose form the words have after a call and its port
-abbrev pub after_call : Network → ClientCall → PortName → List LineKind → List (List ℕ) → Option ReportLine
-after_call n call a [] ws = None
-after_call n call a (k ∷ ks) ws = meant_by k call a (matched n (drop 3 (form_of k)) ws) (after_call n call a ks ws)
+-- the meaning of the first of these kinds by the words that are left of a call's line after so many parts
+abbrev pub call_rest : Network → ClientCall → PortName → List LineKind → ℕ → List (List ℕ) → Option ReportLine
+call_rest n call a ks parts ws = rest_said n ks parts (call_values call a) ws
 
--- the port of a host, where both were said
-abbrev pub port_at : Option ℕ → Option ℕ → Option PortName
-port_at None p = None
-port_at (Some h) None = None
-port_at (Some h) (Some p) = Some (record { host = h; port = p })
-
--- `H P`: a port of a host, from 0 to 7
-abbrev pub port_said : Network → List ℕ → List ℕ → Option PortName
-port_said n h p = port_at (host_said n h) (number_said 7 p)
-
--- what a call says, where its port was said
-abbrev pub at_port_said : Network → ClientCall → Option PortName → List (List ℕ) → Option ReportLine
-at_port_said n call None ws = None
-at_port_said n call (Some a) ws = after_call n call a (call_kinds call) ws
-
--- what a call says by the words after its own
-abbrev pub call_said : Network → ClientCall → List (List ℕ) → Option ReportLine
-call_said n call (h ∷ p ∷ ws) = at_port_said n call (port_said n h p) ws
-call_said n call _ = None
+-- the tokens of a port, or a refusal, by the words after the port
+abbrev pub tokens_said : Network → PortName → List (List ℕ) → Option ReportLine
+tokens_said n a ws =
+    said_as None Tokens (before (HostAt a.host ∷ Number a.port ∷ []) (matched n (drop 3 (form_of Tokens)) ws))
+    (call_rest n TokensCall a (CallRefused ∷ []) 3 ws)
 
 -- a message by the words that are left after so many parts of its form, with the values of these
 abbrev pub received_said : Network → PortName → ℕ → List LineValue → List (List ℕ) → Option ReportLine
-received_said n a parts vs ws =
-    meant_by CallReceived Poll a (before vs (matched n (drop parts (form_of CallReceived)) ws)) None
+received_said n a parts vs ws = rest_said n (CallReceived ∷ []) parts (call_values Poll a ++ vs) ws
 
 -- the turns of these words
 abbrev pub turns_said : List (List ℕ) → Option (List ℤ)

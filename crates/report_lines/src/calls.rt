@@ -1,15 +1,13 @@
-//! Lines of client calls, after the call and its port: a refusal or an answer.
+//! Lines of client calls: a refusal or an answer.
 
-ghost use Rattle.std.specs.Prelude.{◌≡◌, ◌∷◌, [], codes, IfSome, None, map};
+ghost use Rattle.std.specs.Prelude.{◌≡◌, ◌∷◌, [], codes, map};
 ghost use Rattle.net_defs.specs.Network.{empty_network};
 ghost use Rattle.fab_text.specs.Line.{words_of};
 ghost use Rattle.line_table.specs.declared.kind.LineKind.TheVariants.{CallDone, CallCounted, CallToken, CallRefused};
 ghost use Rattle.line_table.specs.declared.kind.LineKind.TheVariants.{CallUnfinished};
-ghost use Rattle.line_table.specs.Matching.{matched};
-ghost use Rattle.line_table.specs.Table.{form_of};
-ghost use Rattle.run_defs.specs.LineRows.{call_word};
-ghost use Rattle.report_lines.specs.Meaning.{call_kinds, call_named, causes_of, refused_for, token_of};
-ghost use Rattle.report_lines.specs.Reading.{after_call, port_said};
+ghost use Rattle.report_lines.specs.Lines.{first_said};
+ghost use Rattle.report_lines.specs.Meaning.{causes_of, refused_for, token_of};
+ghost use Rattle.report_lines.specs.Reading.{call_rest};
 
 use crate::ReportLine;
 use crate::word::{host, is_among, is_number, is_same, small, value};
@@ -37,45 +35,13 @@ static OF_SEND: [&[u8]; 5] = [b"notopen", b"notoken", b"toolong", b"noroute", b"
 
 static OF_OTHERS: [&[u8]; 1] = [b"notopen"];
 
-/// The call that a word names.
-pub(crate) fn call_named(word: &[u8]) -> Option<ClientCall>
-    ensures { result ≡ call_named word.now }
+/// `H P done`, or a refusal, after the word `open`.
+pub(crate) fn opened(fabric: &Fabric, mut args: Words) -> Option<ReportLine>
+    ensures { result ≡ first_said fabric.now (CallDone ∷ CallRefused ∷ []) (codes "open" ∷ words_of args.entry) }
 {
-    if word == b"open".as_slice() {
-        Some(ClientCall::Begin)
-    } else if word == b"close".as_slice() {
-        Some(ClientCall::Close)
-    } else if word == b"provide".as_slice() {
-        Some(ClientCall::Provide)
-    } else if word == b"send".as_slice() {
-        Some(ClientCall::Send)
-    } else if word == b"poll".as_slice() {
-        Some(ClientCall::Poll)
-    } else if word == b"tokens".as_slice() {
-        Some(ClientCall::Tokens)
-    } else {
-        None
-    }
-}
-
-/// `H P`: a port of a host.
-pub(crate) fn port(fabric: &Fabric, h: &[u8], p: &[u8]) -> Option<PortName>
-    ensures { result ≡ port_said fabric.now h.now p.now }
-{
-    match host(fabric, h) {
-        Some(host) => match small(p, MAX_PORT) {
-            Some(port) => Some(PortName { host, port }),
-            None => None,
-        },
-        None => None,
-    }
-}
-
-/// `done`, or a refusal.
-pub(crate) fn opened(port: PortName, mut args: Words) -> Option<ReportLine>
-    ensures { result ≡ after_call empty_network ClientCall.Begin port (call_kinds ClientCall.Begin)
-        (words_of args.entry) }
-{
+    let host = host(fabric, args.next_word()?)?;
+    let port = small(args.next_word()?, MAX_PORT)?;
+    let port = PortName { host, port };
     let word = args.next_word()?;
     if is_same(word, b"refused".as_slice()) {
         return refused(ClientCall::Begin, port, args);
@@ -89,11 +55,14 @@ pub(crate) fn opened(port: PortName, mut args: Words) -> Option<ReportLine>
     }
 }
 
-/// `done N`, or a refusal, which may count what is unfinished.
-pub(crate) fn closed(port: PortName, mut args: Words) -> Option<ReportLine>
-    ensures { result ≡ after_call empty_network ClientCall.Close port (call_kinds ClientCall.Close)
-        (words_of args.entry) }
+/// `H P done N`, or a refusal, which may count what is unfinished, after the word `close`.
+pub(crate) fn closed(fabric: &Fabric, mut args: Words) -> Option<ReportLine>
+    ensures { result ≡ first_said fabric.now (CallCounted ∷ CallRefused ∷ CallUnfinished ∷ [])
+        (codes "close" ∷ words_of args.entry) }
 {
+    let host = host(fabric, args.next_word()?)?;
+    let port = small(args.next_word()?, MAX_PORT)?;
+    let port = PortName { host, port };
     let word = args.next_word()?;
     if is_same(word, b"refused".as_slice()) {
         return not_closed(port, args);
@@ -110,8 +79,8 @@ pub(crate) fn closed(port: PortName, mut args: Words) -> Option<ReportLine>
 
 // `CAUSE` or `CAUSE N`, after the word `refused` of a close
 fn not_closed(port: PortName, mut args: Words) -> Option<ReportLine>
-    ensures { result ≡ after_call empty_network ClientCall.Close port (CallRefused ∷ CallUnfinished ∷ [])
-        (codes "refused" ∷ words_of args.entry) }
+    ensures { result ≡ call_rest empty_network ClientCall.Close port (CallRefused ∷ CallUnfinished ∷ []) 4
+        (words_of args.entry) }
 {
     let cause = args.next_word()?;
     if !is_among(&CAUSES, cause) {
@@ -125,8 +94,8 @@ fn not_closed(port: PortName, mut args: Words) -> Option<ReportLine>
 
 // A cause that counts what is unfinished.
 fn unfinished(port: PortName, cause: &[u8], mut args: Words) -> Option<ReportLine>
-    ensures { result ≡ after_call empty_network ClientCall.Close port (CallUnfinished ∷ [])
-        (codes "refused" ∷ cause.now ∷ words_of args.entry) }
+    ensures { result ≡ call_rest empty_network ClientCall.Close port (CallUnfinished ∷ []) 4
+        (cause.now ∷ words_of args.entry) }
 {
     if !is_among(&UNFINISHED, cause) {
         return None;
@@ -141,9 +110,27 @@ fn unfinished(port: PortName, cause: &[u8], mut args: Words) -> Option<ReportLin
     }
 }
 
-/// `token T`, or a refusal.
-pub(crate) fn took(call: ClientCall, port: PortName, mut args: Words) -> Option<ReportLine>
-    ensures { result ≡ after_call empty_network call port (CallToken ∷ CallRefused ∷ []) (words_of args.entry) }
+/// `H P token T`, or a refusal, after the word `provide`.
+pub(crate) fn provided(fabric: &Fabric, mut args: Words) -> Option<ReportLine>
+    ensures { result ≡ first_said fabric.now (CallToken ∷ CallRefused ∷ []) (codes "provide" ∷ words_of args.entry) }
+{
+    let host = host(fabric, args.next_word()?)?;
+    let port = small(args.next_word()?, MAX_PORT)?;
+    took(ClientCall::Provide, PortName { host, port }, args)
+}
+
+/// The same after the word `send`.
+pub(crate) fn accepted(fabric: &Fabric, mut args: Words) -> Option<ReportLine>
+    ensures { result ≡ first_said fabric.now (CallToken ∷ CallRefused ∷ []) (codes "send" ∷ words_of args.entry) }
+{
+    let host = host(fabric, args.next_word()?)?;
+    let port = small(args.next_word()?, MAX_PORT)?;
+    took(ClientCall::Send, PortName { host, port }, args)
+}
+
+// `token T`, or a refusal.
+fn took(call: ClientCall, port: PortName, mut args: Words) -> Option<ReportLine>
+    ensures { result ≡ call_rest empty_network call port (CallToken ∷ CallRefused ∷ []) 3 (words_of args.entry) }
 {
     let word = args.next_word()?;
     if is_same(word, b"refused".as_slice()) {
@@ -172,8 +159,7 @@ fn token_of(call: ClientCall, port: PortName, token: u64) -> Option<ReportLine>
 
 /// `CAUSE`, after the word `refused`.
 pub(crate) fn refused(call: ClientCall, port: PortName, mut args: Words) -> Option<ReportLine>
-    ensures { result ≡ after_call empty_network call port (CallRefused ∷ [])
-        (codes "refused" ∷ words_of args.entry) }
+    ensures { result ≡ call_rest empty_network call port (CallRefused ∷ []) 4 (words_of args.entry) }
 {
     let cause = args.next_word()?;
     if !is_among(&CAUSES, cause) {

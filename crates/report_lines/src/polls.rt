@@ -1,12 +1,13 @@
-//! Lines of `poll` and `tokens`, after their port: messages that came, and where tokens are.
+//! Lines of `poll` and `tokens`: messages that came, and where tokens are.
 
 ghost use Rattle.std.specs.Prelude.{◌≡◌, ◌∷◌, [], codes, IfOk, MatchOption, None, option_map};
 ghost use Rattle.net_defs.specs.Network.{empty_network};
 ghost use Rattle.fab_text.specs.Line.{words_of};
 ghost use Rattle.line_table.specs.declared.kind.LineKind.TheVariants.{CallSent, CallNothing, CallRefused};
 ghost use Rattle.line_table.specs.Form.{Number, HostAt};
+ghost use Rattle.report_lines.specs.Lines.{first_said};
 ghost use Rattle.report_lines.specs.Meaning.{call_kinds, tokens_line};
-ghost use Rattle.report_lines.specs.Reading.{after_call, both_said, received_said};
+ghost use Rattle.report_lines.specs.Reading.{both_said, call_rest, received_said, tokens_said};
 
 use crate::bytes::read_bytes;
 use crate::calls::refused;
@@ -25,14 +26,41 @@ const MAX_PORT: u8 = 7;
 // The greatest priority.
 const MAX_PRIO: u8 = 1;
 
-/// `received ..`, `sent token T`, `nothing`, or a refusal.
+/// `H P received ..`, `H P sent token T`, `H P nothing`, or a refusal, after the word `poll`.
 pub(crate) fn polled(
+    alloc: Global,
+    fabric: &Fabric,
+    args: Words,
+) -> Result<Option<ReportLine>, AllocError>
+    ensures { IfOk result (λ r. r ≡ first_said fabric.now (call_kinds ClientCall.Poll)
+        (codes "poll" ∷ words_of args.entry)) }
+{
+    match polled_port(fabric, args) {
+        Some((port, left)) => polled_at(alloc, fabric, port, left),
+        None => Ok(None),
+    }
+}
+
+// The port, and the words that are left.
+fn polled_port<'a>(fabric: &Fabric, mut args: Words<'a>) -> Option<(PortName, Words<'a>)>
+    ensures { MatchOption result
+        (first_said fabric.now (call_kinds ClientCall.Poll) (codes "poll" ∷ words_of args.entry) ≡ None)
+        (λ o. first_said fabric.now (call_kinds ClientCall.Poll) (codes "poll" ∷ words_of args.entry)
+        ≡ call_rest fabric.now ClientCall.Poll o.0 (call_kinds ClientCall.Poll) 3 (words_of o.1)) }
+{
+    let host = host(fabric, args.next_word()?)?;
+    let port = small(args.next_word()?, MAX_PORT)?;
+    Some((PortName { host, port }, args))
+}
+
+// The same after the port.
+fn polled_at(
     alloc: Global,
     fabric: &Fabric,
     port: PortName,
     mut args: Words,
 ) -> Result<Option<ReportLine>, AllocError>
-    ensures { IfOk result (λ r. r ≡ after_call fabric.now ClientCall.Poll port (call_kinds ClientCall.Poll)
+    ensures { IfOk result (λ r. r ≡ call_rest fabric.now ClientCall.Poll port (call_kinds ClientCall.Poll) 3
         (words_of args.entry)) }
 {
     match args.next_word() {
@@ -44,7 +72,7 @@ pub(crate) fn polled(
 
 // What is polled beside messages.
 fn polled_other(port: PortName, word: &[u8], mut args: Words) -> Option<ReportLine>
-    ensures { result ≡ after_call empty_network ClientCall.Poll port (CallSent ∷ CallNothing ∷ CallRefused ∷ [])
+    ensures { result ≡ call_rest empty_network ClientCall.Poll port (CallSent ∷ CallNothing ∷ CallRefused ∷ []) 3
         (word.now ∷ words_of args.entry) }
 {
     if is_same(word, b"sent".as_slice()) {
@@ -64,8 +92,7 @@ fn polled_other(port: PortName, word: &[u8], mut args: Words) -> Option<ReportLi
 
 // `token T`, after the word `sent`
 fn returned(port: PortName, mut args: Words) -> Option<ReportLine>
-    ensures { result ≡ after_call empty_network ClientCall.Poll port (CallSent ∷ [])
-        (codes "sent" ∷ words_of args.entry) }
+    ensures { result ≡ call_rest empty_network ClientCall.Poll port (CallSent ∷ []) 4 (words_of args.entry) }
 {
     if !is_same(args.next_word()?, b"token".as_slice()) {
         return None;
@@ -190,15 +217,41 @@ fn with_body(
     }
 }
 
-/// `send T=PLACE .. recv T=PLACE ..`, or a refusal.
+/// `H P send T=PLACE .. recv T=PLACE ..`, or a refusal, after the word `tokens`.
 pub(crate) fn tokens(
+    alloc: Global,
+    fabric: &Fabric,
+    args: Words,
+) -> Result<Option<ReportLine>, AllocError>
+    ensures { IfOk result (λ r. r ≡ first_said fabric.now (call_kinds ClientCall.Tokens)
+        (codes "tokens" ∷ words_of args.entry)) }
+{
+    match shown_port(fabric, args) {
+        Some((port, left)) => tokens_at(alloc, fabric, port, left),
+        None => Ok(None),
+    }
+}
+
+// The port, and the words that are left.
+fn shown_port<'a>(fabric: &Fabric, mut args: Words<'a>) -> Option<(PortName, Words<'a>)>
+    ensures { MatchOption result
+        (first_said fabric.now (call_kinds ClientCall.Tokens) (codes "tokens" ∷ words_of args.entry) ≡ None)
+        (λ o. first_said fabric.now (call_kinds ClientCall.Tokens) (codes "tokens" ∷ words_of args.entry)
+        ≡ tokens_said fabric.now o.0 (words_of o.1)) }
+{
+    let host = host(fabric, args.next_word()?)?;
+    let port = small(args.next_word()?, MAX_PORT)?;
+    Some((PortName { host, port }, args))
+}
+
+// The same after the port.
+fn tokens_at(
     alloc: Global,
     fabric: &Fabric,
     port: PortName,
     mut args: Words,
 ) -> Result<Option<ReportLine>, AllocError>
-    ensures { IfOk result (λ r. r ≡ after_call fabric.now ClientCall.Tokens port (call_kinds ClientCall.Tokens)
-        (words_of args.entry)) }
+    ensures { IfOk result (λ r. r ≡ tokens_said fabric.now port (words_of args.entry)) }
 {
     match args.next_word() {
         Some(word) if is_same(word, b"send".as_slice()) => shown(alloc, port, args),
