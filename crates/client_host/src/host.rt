@@ -1,15 +1,16 @@
 //! One host with its clients, and all that is no call of a client.
 
 ghost use Rattle.std.specs.Prelude.{◌≡◌, ◌<◌, ◌≤◌, ℕ, nat_lt, length, replicate, true, is_some, if◌then◌else◌, Some};
-ghost use Rattle.std.specs.Prelude.{None, option_map, false, IfOk, OnOk, OnErr};
+ghost use Rattle.std.specs.Prelude.{None, option_map, IfOk, IfSome, IfNone, OnOk, OnErr};
 ghost use Rattle.gm_defs.specs.Body.{is_prio};
 ghost use Rattle.world_defs.specs.Mapping.{is_part};
 ghost use Rattle.world_defs.specs.Table.{active_epoch, revoked_table, has_revoked};
 ghost use Rattle.world_defs.specs.Node.{StagedProbe, StagedPart, port_count, to_send, packet_for, has_staged, given_up};
-ghost use Rattle.world_defs.specs.Node.{node_expired, unacknowledged_on, unacknowledged_to, lane_count, lane_of};
+ghost use Rattle.world_defs.specs.Node.{node_expired, unacknowledged_to, lane_count, lane_of};
 ghost use Rattle.world_defs.specs.Node.{lane_at};
 ghost use Rattle.world_defs.specs.Hearing.{hear};
 ghost use Rattle.nic_node.specs.Sending.{once_sent};
+ghost use Rattle.nic_node.specs.Waiting.{IsNextUnacked};
 ghost use Rattle.client_host.specs.Held.{unused_host, in_state};
 
 use crate::ending::end_clients;
@@ -202,13 +203,13 @@ impl ClientHost {
         self.node.unacked(peer)
     }
 
-    /// Whether something isn't acknowledged, sent or not, to any peer.
-    pub fn has_unacked(&self) -> bool
-        ensures none { result ≡ false → (peer : ℕ) → unacknowledged_to self.now.state peer ≡ 0 }
-        ensures some { result ≡ true → (lane : ℕ) × (lane < length self.now.state.lanes)
-            × (0 < unacknowledged_on self.now.state lane) }
+    /// The least peer that isn't below an address and to which something isn't acknowledged, sent or not, if there is
+    /// one.
+    pub fn next_unacked(&self, from: u16) -> Option<u16>
+        ensures found { IfSome result (IsNextUnacked self.now.state self.now.hosts from) }
+        ensures none { IfNone result ((peer : ℕ) → from ≤ peer → unacknowledged_to self.now.state peer ≡ 0) }
     {
-        self.node.has_unacked()
+        self.node.next_unacked(from)
     }
 
     /// Whether it has something to send.

@@ -1,6 +1,5 @@
 -- A sum over hosts under way: what was summed so far and the sum over those from an address on are the whole sum.
-use Rattle.std.proofs.Common.{◌≡◌, ◌<◌, ◌≤◌, ℕ, suc, ◌+◌, ◌-◌, false, nat_lt, map, ap, arith}
-use Rattle.std.proofs.lemmas.Bool.Decides.{nat_tests}
+use Rattle.std.proofs.Common.{◌≡◌, ◌<◌, ◌≤◌, ℕ, suc, ◌+◌, ◌-◌, map, ap, arith}
 use Rattle.std.specs.List.{range_with_len}
 use Rattle.world_defs.specs.Node.{unacknowledged_to}
 use Rattle.world_defs.specs.World.{WorldState, host_count, addresses, node_at, sum_of}
@@ -25,14 +24,13 @@ summing-all f count from sum s past =
     let before = s.rest in
     omega (arith, none, before)
 
-pub none-left : (n : ℕ) → nat_lt 0 n ≡ false → 0 ≡ n
-none-left n none = grind (arith, nat_tests)
+-- where nothing is summed
+pub summing-none : (f : ℕ → ℕ) (count sum from : ℕ) → f from ≡ 0 → from < count → Summing f count from sum → Summing f count (from + 1) sum
+summing-none f count sum from none low s = summing-on f count from sum sum s low (omega (arith, none))
 
 -- of a host at rest nothing is summed
 pub rests-none : (w : WorldState) (h : ℕ) → RestsIn w h → unacknowledged_from w h ≡ 0
 rests-none w h r = none-in-sum (unacknowledged_to (node_at w h)) (addresses w) r.acknowledged
 
 pub summing-by : (w : WorldState) (sum h : ℕ) → RestsIn w h → h < host_count w → Summing (unacknowledged_from w) (host_count w) h sum → Summing (unacknowledged_from w) (host_count w) (h + 1) sum
-summing-by w sum h r low s =
-    let none = rests-none w h r in
-    summing-on (unacknowledged_from w) (host_count w) h sum sum s low (omega (arith, none))
+summing-by w sum h r low s = summing-none (unacknowledged_from w) (host_count w) sum h (rests-none w h r) low s

@@ -125,7 +125,7 @@ impl Machine {
         requires silent { IsSilentIn self.old host }
         ensures { self.new ≡ self.old }
     {
-        let waits = self.at(host).has_unacked();
+        let waits = self.at(host).next_unacked(0).is_some();
         self.marks.busy.unmark(usize::from(host));
         if !waits {
             self.marks.awake.unmark(usize::from(host));

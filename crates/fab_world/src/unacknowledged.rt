@@ -1,9 +1,10 @@
 //! What isn't acknowledged yet.
 
-ghost use Rattle.std.specs.Prelude.{◌≡◌, ◌≤◌, nat_lt};
+ghost use Rattle.std.specs.Prelude.{◌≡◌, ◌≤◌, ℕ, IfSome, IfNone};
 ghost use Rattle.world_defs.specs.Node.{unacknowledged_to};
-ghost use Rattle.world_defs.specs.World.{node_at};
+ghost use Rattle.world_defs.specs.World.{host_count, node_at};
 ghost use Rattle.world_defs.specs.Settle.{unacknowledged_from, unacknowledged_in};
+ghost use Rattle.nic_node.specs.Waiting.{IsNextUnacked};
 ghost use Rattle.fab_world.specs.Events.{IsHostOf};
 
 use crate::world::World;
@@ -26,19 +27,19 @@ impl World {
         sum
     }
 
-    // How many fragments of a host aren't acknowledged. Where all are, its peers aren't gone through.
+    // How many fragments of a host aren't acknowledged. Peers that have acknowledged all are passed by.
     fn unacked_from(&self, host: u16) -> u64
         requires { IsHostOf self.now host }
         ensures sum { result ≡ unacknowledged_from self.now host }
         ensures few { result ≤ 1099511627520 }
     {
-        if !self.has_unacked(host) {
-            return 0;
-        }
         self.moment();
+        let _few = self.hosts();
         let mut sum = 0;
-        for peer in 0..self.hosts() {
+        let mut from = 0;
+        while let Some(peer) = self.next_unacked(host, from) {
             sum += self.unacked_to(host, peer);
+            from = peer + 1;
         }
         sum
     }
@@ -53,11 +54,14 @@ impl World {
         self.machine.at(host).unacked(peer)
     }
 
-    /// Whether something of a host isn't acknowledged, sent or not, by any peer.
-    pub fn has_unacked(&self, host: u16) -> bool
+    /// The least peer that isn't below an address and to which something of a host isn't acknowledged, sent or not, if
+    /// there is one.
+    pub fn next_unacked(&self, host: u16, from: u16) -> Option<u16>
         requires { IsHostOf self.now host }
-        ensures { result ≡ nat_lt 0 (unacknowledged_from self.now host) }
+        ensures found { IfSome result (IsNextUnacked (node_at self.now host) (host_count self.now) from) }
+        ensures none { IfNone result ((peer : ℕ) → from ≤ peer
+            → unacknowledged_to (node_at self.now host) peer ≡ 0) }
     {
-        self.machine.at(host).has_unacked()
+        self.machine.at(host).next_unacked(from)
     }
 }

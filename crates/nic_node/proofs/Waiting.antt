@@ -1,36 +1,48 @@
--- Whether something of a host isn't acknowledged: as the search through its lanes ends.
-use Rattle.std.proofs.Common.{◌≡◌, ◌<◌, ℕ, Bool, true, false, true≢false, nat_lt, Option, Some, None, length, sym, ap, arith}
-use Rattle.std.specs.Prelude.{is_some}
+-- The next peer to which something isn't acknowledged: as the search through the lanes ends.
+use Rattle.std.proofs.Common.{◌≡◌, ◌<◌, ◌≤◌, ◌*◌, ℕ, Bool, nat_lt, Some, None, length, ap, arith}
 use Rattle.std.proofs.lemmas.Bool.Decides.{nat_tests}
 use Rattle.std.proofs.lemmas.List.{get_or_past}
 use native.Mathlib.Decide.{dec_lt}
 use Rattle.gm_defs.specs.Connection.{unacknowledged}
 use Rattle.world_defs.specs.Lane.{new_lane}
-use Rattle.world_defs.specs.Node.{NodeState, lane_of, unacknowledged_on, unacknowledged_to}
-use Rattle.gm_conn.specs.Lanes.{IsNext}
+use Rattle.world_defs.specs.Node.{NodeState, lane_count, lane_of, peer_of, prio_of, unacknowledged_on, unacknowledged_to}
+use Rattle.world_defs.proofs.Lanes.{lane_of-parts, lane-within, peer_of-below}
+use Rattle.gm_conn.specs.Lanes.{IsNext, NoneBetween}
+use Rattle.nic_node.specs.Waiting.{IsNextUnacked}
 use Rattle.nic_node.proofs.Choosing.{Found, found}
 
 -- something isn't acknowledged on a lane
 abbrev pub waits_on : NodeState → ℕ → Bool
 waits_on n lane = nat_lt 0 (unacknowledged_on n lane)
 
--- what is said of a whole search
-abbrev pub IsTold : NodeState → Bool → Type 0
-IsTold n b = (b ≡ false → (peer : ℕ) → unacknowledged_to n peer ≡ 0)
-    × (b ≡ true → (lane : ℕ) × (lane < length n.lanes) × (0 < unacknowledged_on n lane))
+lane-quiet : (n : NodeState) (from below lane : ℕ) → NoneBetween (waits_on n) from below → from ≤ lane → lane < below → unacknowledged_on n lane ≡ 0
+lane-quiet n from below lane none low high = let quiet = none lane low high in grind (arith, nat_tests)
 
-pub told-of : (n : NodeState) (r : Option ℕ) → IsNext (waits_on n) 0 (length n.lanes) r → IsTold n (is_some r)
-told-of n None least = (λ e peer. none peer, λ e. absurd (true≢false (sym e)))
+pub no-peer : (n : NodeState) (from : ℕ) → IsNext (waits_on n) (2 * from) (length n.lanes) None → (peer : ℕ) → from ≤ peer → unacknowledged_to n peer ≡ 0
+no-peer n from least peer above =
+    let a = on (lane_of peer 0) (omega (arith, above)) in
+    let b = on (lane_of peer 1) (omega (arith, above)) in
+    omega (arith, a, b)
   where
-    on : (lane : ℕ) → unacknowledged_on n lane ≡ 0
-    on lane = elim (dec_lt lane (length n.lanes)) [
-      | yes low ↦ let quiet = found (waits_on n) 0 (length n.lanes) None least lane (omega arith) low in grind (arith, nat_tests)
+    on : (lane : ℕ) → 2 * from ≤ lane → unacknowledged_on n lane ≡ 0
+    on lane low = elim (dec_lt lane (length n.lanes)) [
+      | yes high ↦ lane-quiet n (2 * from) (length n.lanes) lane (found (waits_on n) (2 * from) (length n.lanes) None least) low high
       | no high ↦ ap (λ l. unacknowledged l.sender) (get_or_past n.lanes lane new_lane (omega (arith, high)))
     ]
 
-    none : (peer : ℕ) → unacknowledged_to n peer ≡ 0
-    none peer = let a = on (lane_of peer 0) in let b = on (lane_of peer 1) in omega (arith, a, b)
-told-of n (Some lane) least =
-    let l : Found (waits_on n) 0 (length n.lanes) (Some lane) = found (waits_on n) 0 (length n.lanes) (Some lane) least in
+pub next-peer : (n : NodeState) (hosts from lane : ℕ) → length n.lanes ≡ lane_count hosts → IsNext (waits_on n) (2 * from) (length n.lanes) (Some lane) → IsNextUnacked n hosts from (peer_of lane)
+next-peer n hosts from lane count least =
+    let l : Found (waits_on n) (2 * from) (length n.lanes) (Some lane) = found (waits_on n) (2 * from) (length n.lanes) (Some lane) least in
+    let low = l.0 in
+    let same : unacknowledged_on n (lane_of (peer_of lane) (prio_of lane)) ≡ unacknowledged_on n lane = ap (unacknowledged_on n) (lane_of-parts lane) in
+    let share = lane-within n (peer_of lane) (prio_of lane) in
     let some : 0 < unacknowledged_on n lane = let waits = l.2 in grind (arith, nat_tests) in
-    (λ e. absurd (true≢false e), λ e. (lane, l.1, some))
+    record {
+      above = omega (arith, low);
+      there = peer_of-below hosts lane (omega (arith, l.1, count));
+      waits = omega (arith, same, share, some);
+      passed = λ k over under.
+          let a = lane-quiet n (2 * from) lane (lane_of k 0) l.3 (omega (arith, over)) (omega (arith, under)) in
+          let b = lane-quiet n (2 * from) lane (lane_of k 1) l.3 (omega (arith, over)) (omega (arith, under)) in
+          omega (arith, a, b);
+    }

@@ -4,3 +4,4 @@ pub mod Reading
 pub mod Sending
 pub mod Accepting
 pub mod Ending
+pub mod Waiting

@@ -45,7 +45,7 @@ expire-left w h p = by (nat_lt 0 (unacknowledged_to (node_at w h) p))
     by true = nodes-left w h p
     by false = λ a b. refl
 
-pub expire-idle : (w : WorldState) (h p : ℕ) → unacknowledged_to (node_at w h) p ≡ 0 → (step w (Expire h p)).1 ≡ w
+expire-idle : (w : WorldState) (h p : ℕ) → unacknowledged_to (node_at w h) p ≡ 0 → (step w (Expire h p)).1 ≡ w
 expire-idle w h p none = let k = step-idle w (Expire h p) in k.still (k.to none)
 
 -- a host of which all is acknowledged has none
@@ -136,6 +136,12 @@ expiring-on first now next host peer r low is hosts =
           (due-next first now next v host peer (range_with_len (peer + 1) (host_count first - (peer + 1))) r.same is p));
       hosts = hosts ∙ r.hosts;
     }
+
+-- nothing happens for a peer that has acknowledged all
+pub expiring-idle : (first now : WorldState) (host peer : ℕ) → unacknowledged_to (node_at now host) peer ≡ 0 → peer < host_count now → Expiring first now host peer → Expiring first now host (peer + 1)
+expiring-idle first now host peer none low r =
+    let same = r.hosts in
+    expiring-on first now now host peer r (omega (arith, low, same)) (sym (expire-idle now host peer none)) refl
 
 pub expiring-all : (first now : WorldState) (host peer : ℕ) → Expiring first now host peer → host_count first ≤ peer → now ≡ after_all first (expiries_of first host)
 expiring-all first now host peer r past =

@@ -5,8 +5,7 @@ ghost use Rattle.std.specs.Prelude.{IfOk, OnOk, OnErr};
 ghost use Rattle.world_defs.specs.Later.{OnlyPulled};
 ghost use Rattle.world_defs.specs.Links.{is_idle};
 ghost use Rattle.world_defs.specs.World.{host_count, last_count};
-ghost use Rattle.world_defs.specs.declared.event.Event.TheVariants.{Expire};
-ghost use Rattle.world_defs.specs.Step.{step, after_all};
+ghost use Rattle.world_defs.specs.Step.{after_all};
 ghost use Rattle.world_defs.specs.Settle.{unacknowledged_in, expiries_of, expiries, round_bound};
 ghost use Rattle.world_defs.specs.Settled.{IsSettled};
 ghost use Rattle.world_defs.specs.Logs as log;
@@ -143,24 +142,10 @@ fn expire_all(alloc: Global, w: &mut World) -> Result<(), AllocError>
     let _few = w.hosts();
     let mut from = 0;
     while let Some(host) = w.next_awake(from) {
-        expire_host_due(alloc, w, host)?;
+        expire_host(alloc, w, host)?;
         from = host + 1;
     }
     Ok(())
-}
-
-// The expiries of a host, unless all of it is acknowledged: it has none then.
-fn expire_host_due(alloc: Global, w: &mut World, host: u16) -> Result<(), AllocError>
-    requires { IsHostOf w.old host }
-    ensures after { OnOk result (w.new ≡ after_all w.old (expiries_of w.old host)) }
-    ensures err { OnErr result (IsPartWay w.old (expiries_of w.old host) w.new) }
-    ensures hosts { host_count w.new ≡ host_count w.old }
-{
-    if w.has_unacked(host) {
-        expire_host(alloc, w, host)
-    } else {
-        Ok(())
-    }
 }
 
 // An expiry for each peer to which something of a host isn't acknowledged.
@@ -170,22 +155,11 @@ fn expire_host(alloc: Global, w: &mut World, host: u16) -> Result<(), AllocError
     ensures err { OnErr result (IsPartWay w.old (expiries_of w.old host) w.new) }
     ensures hosts { host_count w.new ≡ host_count w.old }
 {
-    for peer in 0..w.hosts() {
-        expire_due(alloc, w, host, peer)?;
+    let _few = w.hosts();
+    let mut from = 0;
+    while let Some(peer) = w.next_unacked(host, from) {
+        happen(alloc, w, Event::Expire { host, peer })?;
+        from = peer + 1;
     }
     Ok(())
-}
-
-// The expiry of a pair, unless all of it is acknowledged: it would be idle then.
-fn expire_due(alloc: Global, w: &mut World, host: u16, peer: u16) -> Result<(), AllocError>
-    requires there { IsHostOf w.old host }
-    requires peer { IsHostOf w.old peer }
-    ensures after { OnOk result (w.new ≡ (step w.old (Expire host peer)).1) }
-    ensures err { OnErr result (w.new ≡ w.old) }
-    ensures hosts { host_count w.new ≡ host_count w.old }
-{
-    if w.unacked_to(host, peer) == 0 {
-        return Ok(());
-    }
-    happen(alloc, w, Event::Expire { host, peer })
 }

@@ -10,20 +10,20 @@ use Rattle.world_drain.proofs.rounds.expire_all.Goals as goal
 pub loop-host-init : goal.loop-host-init
 loop-host-init c = expiring_all-none c.args.w.now
 
-pub returns-in_err-expire_host_due-clause-err : goal.returns-in_err-expire_host_due-clause-err
-returns-in_err-expire_host_due-clause-err c =
+pub returns-in_err-expire_host-clause-err : goal.returns-in_err-expire_host-clause-err
+returns-in_err-expire_host-clause-err c =
     let f = c.in-Some.ensures.found in
     let at = up-to (RestsIn c.loop-host.w) (ExpiringAll c.args.w.now c.loop-host.w) c.loop-host.w c.loop-host.from (expiring-by c.args.w.now c.loop-host.w) c.in-Some.host f.above f.there f.passed c.loop-host.invariant in
     let low : c.in-Some.host < host_count c.args.w.now = omega (arith, f.there, c.loop-host.invariant.hosts) in
     on-any c.from_residual.result
-    (expiring_all-cut c.args.w.now c.loop-host.w c.expire_host_due.new.w c.in-Some.host at low c.in_err-expire_host_due.ensures.err)
+    (expiring_all-cut c.args.w.now c.loop-host.w c.expire_host.new.w c.in-Some.host at low c.in_err-expire_host.ensures.err)
 
 pub loop-host-preserved : goal.loop-host-preserved
 loop-host-preserved c =
     let f = c.in-Some.ensures.found in
     let at = up-to (RestsIn c.loop-host.w) (ExpiringAll c.args.w.now c.loop-host.w) c.loop-host.w c.loop-host.from (expiring-by c.args.w.now c.loop-host.w) c.in-Some.host f.above f.there f.passed c.loop-host.invariant in
     let low : c.in-Some.host < host_count c.args.w.now = omega (arith, f.there, c.loop-host.invariant.hosts) in
-    expiring_all-on c.args.w.now c.loop-host.w c.expire_host_due.new.w c.in-Some.host at low c.in_ok-expire_host_due.ensures.after c.in_ok-expire_host_due.ensures.hosts
+    expiring_all-on c.args.w.now c.loop-host.w c.expire_host.new.w c.in-Some.host at low c.in_ok-expire_host.ensures.after c.in_ok-expire_host.ensures.hosts
 
 pub returns-clause-after : goal.returns-clause-after
 returns-clause-after c =

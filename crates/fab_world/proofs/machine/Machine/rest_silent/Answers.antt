@@ -1,15 +1,16 @@
-use Rattle.std.proofs.Common.{◌≡◌, false, subst, arith}
+use Rattle.std.proofs.Common.{◌≡◌, ◌∙◌, false, sym, subst, arith}
 use Rattle.world_defs.specs.Node.{unacknowledged_to}
 use Rattle.fab_world.specs.Resting.{RestsIn}
 use Rattle.fab_world.proofs.Resting.{quieted, rested}
+use Rattle.fab_world.proofs.Waiting.{none-waits}
 use Rattle.fab_world.proofs.machine.Machine.rest_silent.Goals as goal
 
 pub invariant_of-self : goal.invariant_of-self
 invariant_of-self c =
-    let none : c.has_unacked-waits.result ≡ false = grind arith in
+    let none : c.is_some-waits.result ≡ false = grind arith in
     let rests : RestsIn c.args.self.now c.args.host = record {
       silent = c.requires.silent;
-      acknowledged = λ peer. subst (λ n. unacknowledged_to n peer ≡ 0) c.at.ensures.state (c.has_unacked-waits.ensures.none none peer);
+      acknowledged = λ peer. subst (λ n. unacknowledged_to n peer ≡ 0) c.at.ensures.state (none-waits c.at.result.now.state c.next_unacked.result c.next_unacked.ensures.none (sym c.is_some-waits.ensures ∙ none) peer);
     } in
     let quiet = quieted c.self.inside.links c.self.inside.hosts.items c.self.inside.adopted c.args.self.now c.self.inside.marks c.unmark.new.self c.args.host c.from.result c.self.view_is c.self.invariant
     c.from.ensures c.requires.silent c.unmark.ensures in
