@@ -1,4 +1,4 @@
--- Hosts that are silent or at rest are passed by.
+-- Hosts that are silent or at rest, and peers that have acknowledged all, are passed by.
 use Rattle.std.proofs.Common.{◌<◌, ◌≤◌, ℕ, zero, suc, ◌+◌, ◌-◌, subst, arith}
 use Rattle.world_defs.specs.World.{WorldState, host_count}
 
