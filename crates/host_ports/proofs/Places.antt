@@ -89,7 +89,7 @@ changed-own (Some r) f host port p own e =
     let o = own r refl in
     (ap (λ z. z.host) (sym is) ∙ o.0, ap (λ z. z.port) (sym is) ∙ o.1)
 
-pub kept-changed : (host : ℕ) (ps : List (Option OpenPort)) (port i : ℕ) (x q : Option OpenPort) (f : PortState → PortState) → IsHostPorts host ps → port < 8 → i ≡ port → x ≡ slice_index_or ps i x
+kept-changed : (host : ℕ) (ps : List (Option OpenPort)) (port i : ℕ) (x q : Option OpenPort) (f : PortState → PortState) → IsHostPorts host ps → port < 8 → i ≡ port → x ≡ slice_index_or ps i x
     → q ≡ changed_port x f → IsHostPorts host (slice_set ps i q)
 kept-changed host ps port i x q f kept below at e new =
     kept-with host ps i q kept (omega (arith, at))
@@ -143,3 +143,14 @@ none-open (p ∷ ps) (suc n) e zero = closed p (ap (λ l. slice_index_or l 0 Non
     closed None f = refl
     closed (Some q) f = absurd (none-some q.state (sym f))
 none-open (p ∷ ps) (suc n) e (suc k) = none-open ps n (ap (drop 1) e) k
+
+-- an open port changes its state alone, and with it the ports of the host
+pub open-changed : (v : HostPorts) (host : ℕ) (ps : List (Option OpenPort)) (port i : ℕ) (x : Option OpenPort) (p q : OpenPort) (f : PortState → PortState)
+    → record { host = host; ports = states ps } ≡ v → IsHostPorts host ps → port < 8 → i ≡ port → x ≡ slice_index_or ps i x → x ≡ Some p → q ≡ port_in p (f p.state)
+    → record { host = host; ports = states (slice_set ps i (Some q)) } ≡ changed v port f
+open-changed v host ps port i x p q f is kept below at e there new =
+    changed-ports v host ps port i x (Some q) f is kept below at e (ap Some new ∙ ap (λ z. changed_port z f) (sym there))
+
+pub kept-open : (host : ℕ) (ps : List (Option OpenPort)) (port i : ℕ) (x : Option OpenPort) (p q : OpenPort) (f : PortState → PortState) → IsHostPorts host ps → port < 8 → i ≡ port
+    → x ≡ slice_index_or ps i x → x ≡ Some p → q ≡ port_in p (f p.state) → IsHostPorts host (slice_set ps i (Some q))
+kept-open host ps port i x p q f kept below at e there new = kept-changed host ps port i x (Some q) f kept below at e (ap Some new ∙ ap (λ z. changed_port z f) (sym there))

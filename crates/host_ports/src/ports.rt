@@ -133,7 +133,13 @@ impl Ports {
         requires prio { a.prio < 2 }
         ensures { self.new ≡ changed self.old port (λ s. sent_with s t.number b) }
     {
-        slot::send(&mut self.ports[usize::from(port)], t, b, a);
+        match &mut self.ports[usize::from(port)] {
+            Some(open) => match open.send(t, b, a) {
+                Ok(_ticket) => {}
+                Err(_) => unreachable!(),
+            },
+            None => unreachable!(),
+        }
     }
 
     /// Takes a buffer to receive into. A refusal hands token and buffer back and changes nothing: NotOpen, BadSize
@@ -170,7 +176,10 @@ impl Ports {
         requires part { length part.now ≡ h.now.len }
         ensures { self.new ≡ changed self.old h.now.dport (λ s. delivered s h.now part.now) }
     {
-        slot::deliver(&mut self.ports[usize::from(h.dport)], h, part);
+        match &mut self.ports[usize::from(h.dport)] {
+            Some(open) => open.deliver(h, part),
+            None => unreachable!(),
+        }
     }
 
     /// The bytes of the buffer of an unfinished send, by its port and the number of its token.

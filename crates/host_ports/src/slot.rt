@@ -1,41 +1,20 @@
-//! What changes one port, where it is open.
+//! What changes one port that may not be open.
 
-ghost use Rattle.std.specs.Prelude.{◌≡◌, ◌<◌, map, true, None, length, is_some, Some, IfOk, IfErr, IfSome, OnOk};
+ghost use Rattle.std.specs.Prelude.{◌≡◌, ◌<◌, map, true, None, is_some, Some, IfOk, IfErr, IfSome, OnOk};
 ghost use Rattle.std.specs.Prelude.{OnErr, MatchResult, option_map};
 ghost use Rattle.std.specs.Option.{ForSome};
-ghost use Rattle.gm_defs.specs.Body.{is_head};
-ghost use Rattle.gm_defs.specs.Token.{place_of_send, place_of_recv};
-ghost use Rattle.gm_defs.specs.Port.{sent_with, provided_with, send_of, finished, delivered, next_event, polled};
+ghost use Rattle.gm_defs.specs.Token.{place_of_recv};
+ghost use Rattle.gm_defs.specs.Port.{provided_with, send_of, finished, next_event, polled};
 ghost use Rattle.gm_tokens.specs.Token.{token_at};
 ghost use Rattle.gm_port.specs.Held.{send_at, receive_at, event_at};
-ghost use Rattle.world_defs.specs.Hearing.{port_takes};
 ghost use Rattle.host_ports.specs.Held.{state_at, changed_port};
-ghost use Rattle.host_ports.specs.Refusal.{send_bar, provide_bar, close_bar, close_word};
+ghost use Rattle.host_ports.specs.Refusal.{provide_bar, close_bar, close_word};
 
 use crate::ask::{NodeClose, NodeProvide, NotOpen};
-use gm_defs::{FrameHead, TokenPlace};
-use gm_port::{CloseRefusal, Port, PortEvent, ProvideRefusal, SendAsk, Wreck};
-use gm_tokens::{RecvToken, SendToken};
+use gm_defs::TokenPlace;
+use gm_port::{CloseRefusal, Port, PortEvent, ProvideRefusal, Wreck};
+use gm_tokens::RecvToken;
 use reg_mem::Reg;
-
-// Takes a message to send.
-pub(crate) fn send(slot: &mut Option<Port>, t: SendToken, b: Reg, a: SendAsk)
-    requires able { send_bar (state_at slot.old) a.len b ≡ None }
-    requires own { ForSome slot.old (λ p. t ≡ token_at p.host p.port t.number) }
-    requires minted { ForSome slot.old (λ p. t.number < p.state.sends) }
-    requires free { ForSome slot.old (λ p. place_of_send p.state t.number ≡ None) }
-    requires dport { a.dport < 8 }
-    requires prio { a.prio < 2 }
-    ensures { slot.new ≡ changed_port slot.old (λ s. sent_with s t.number b) }
-{
-    match slot {
-        Some(port) => match port.send(t, b, a) {
-            Ok(_ticket) => {}
-            Err(_) => unreachable!(),
-        },
-        None => unreachable!(),
-    }
-}
 
 // Takes a buffer to receive into. A refusal hands token and buffer back.
 pub(crate) fn provide(
@@ -81,19 +60,6 @@ fn is_unfinished(port: &Port, number: u16) -> bool
     ensures { result ≡ is_some (send_of port.now.state number) }
 {
     port.place(true, number) == Some(TokenPlace::Queue)
-}
-
-// A fragment came that the port takes.
-pub(crate) fn deliver(slot: &mut Option<Port>, h: &FrameHead, part: &[u8])
-    requires taken { port_takes (state_at slot.old) h.now ≡ true }
-    requires head { is_head h.now ≡ true }
-    requires part { length part.now ≡ h.now.len }
-    ensures { slot.new ≡ changed_port slot.old (λ s. delivered s h.now part.now) }
-{
-    match slot {
-        Some(port) => port.deliver(h, part),
-        None => unreachable!(),
-    }
 }
 
 // Hands out the event that was put in first.
