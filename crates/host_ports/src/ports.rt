@@ -204,7 +204,10 @@ impl Ports {
             e ≡ option_map (event_at self.old.host port) (next_event p))) }
         ensures rest { self.new ≡ changed self.old port (λ s. polled s) }
     {
-        slot::poll(&mut self.ports[usize::from(port)])
+        match &mut self.ports[usize::from(port)] {
+            Some(open) => Ok(open.poll()),
+            None => Err(NotOpen),
+        }
     }
 
     /// Closes a port, and hands each provided token back with its buffer, first provided first. A refusal changes
@@ -233,7 +236,10 @@ impl Ports {
             w.events.items ≡ map (event_at self.old.host port) p.events)) }
         ensures ended { self.new ≡ with_open self.old port None }
     {
-        slot::abandon(&mut self.ports[usize::from(port)])
+        match self.ports[usize::from(port)].take() {
+            Some(open) => Some(open.abandon()),
+            None => None,
+        }
     }
 
     /// The place of a send token or of a receive token of a port, by its number. None where the client has it, or the

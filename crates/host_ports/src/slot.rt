@@ -1,18 +1,18 @@
-//! What changes one port that may not be open.
+//! What changes one port in more ways than two.
 
 ghost use Rattle.std.specs.Prelude.{◌≡◌, ◌<◌, map, true, None, is_some, Some, IfOk, IfErr, IfSome, OnOk};
-ghost use Rattle.std.specs.Prelude.{OnErr, MatchResult, option_map};
+ghost use Rattle.std.specs.Prelude.{OnErr, MatchResult};
 ghost use Rattle.std.specs.Option.{ForSome};
 ghost use Rattle.gm_defs.specs.Token.{place_of_recv};
-ghost use Rattle.gm_defs.specs.Port.{provided_with, send_of, finished, next_event, polled};
+ghost use Rattle.gm_defs.specs.Port.{provided_with, send_of, finished};
 ghost use Rattle.gm_tokens.specs.Token.{token_at};
-ghost use Rattle.gm_port.specs.Held.{send_at, receive_at, event_at};
+ghost use Rattle.gm_port.specs.Held.{receive_at};
 ghost use Rattle.host_ports.specs.Held.{state_at, changed_port};
 ghost use Rattle.host_ports.specs.Refusal.{provide_bar, close_bar, close_word};
 
-use crate::ask::{NodeClose, NodeProvide, NotOpen};
+use crate::ask::{NodeClose, NodeProvide};
 use gm_defs::TokenPlace;
-use gm_port::{CloseRefusal, Port, PortEvent, ProvideRefusal, Wreck};
+use gm_port::{CloseRefusal, Port, ProvideRefusal};
 use gm_tokens::RecvToken;
 use reg_mem::Reg;
 
@@ -62,19 +62,6 @@ fn is_unfinished(port: &Port, number: u16) -> bool
     port.place(true, number) == Some(TokenPlace::Queue)
 }
 
-// Hands out the event that was put in first.
-pub(crate) fn poll(slot: &mut Option<Port>) -> Result<Option<PortEvent>, NotOpen>
-    ensures open { MatchResult result (λ _. is_some slot.old ≡ true) (λ _. slot.old ≡ None) }
-    ensures first { IfOk result (λ e. IfSome slot.old (λ p.
-        e ≡ option_map (event_at p.host p.port) (next_event p.state))) }
-    ensures rest { slot.new ≡ changed_port slot.old (λ s. polled s) }
-{
-    match slot {
-        Some(port) => Ok(port.poll()),
-        None => Err(NotOpen),
-    }
-}
-
 // Closes a port, and hands each provided token back with its buffer.
 pub(crate) fn close(slot: &mut Option<Port>) -> Result<Vec<(RecvToken, Reg)>, NodeClose>
     ensures refused { MatchResult result (λ _. close_bar (state_at slot.old) ≡ None) (λ e.
@@ -93,23 +80,6 @@ pub(crate) fn close(slot: &mut Option<Port>) -> Result<Vec<(RecvToken, Reg)>, No
             }
         },
         None => Err(NodeClose::NotOpen),
-    }
-}
-
-// Ends a port, whatever it holds, and hands all of it back.
-pub(crate) fn abandon(slot: &mut Option<Port>) -> Option<Wreck>
-    ensures open { is_some result ≡ is_some slot.old }
-    ensures sending { IfSome result (λ w. IfSome slot.old (λ p.
-        w.sending.items ≡ map (send_at p.host p.port) p.state.queue)) }
-    ensures provided { IfSome result (λ w. IfSome slot.old (λ p.
-        w.provided.items ≡ map (receive_at p.host p.port) p.state.provided)) }
-    ensures events { IfSome result (λ w. IfSome slot.old (λ p.
-        w.events.items ≡ map (event_at p.host p.port) p.state.events)) }
-    ensures ended { slot.new ≡ None }
-{
-    match slot.take() {
-        Some(port) => Some(port.abandon()),
-        None => None,
     }
 }
 
