@@ -67,7 +67,8 @@ def open_streams():
     sys.stdin = sys.stdin or Closed()
     sys.stderr = Named(sys.stderr or open(os.devnull, "w"))
     if sys.stdout:
-        sys.stdout.reconfigure(errors="backslashreplace")
+        # Pages and pictures say that they are UTF-8, whatever the locale.
+        sys.stdout.reconfigure(encoding="utf-8", errors="backslashreplace")
 
 
 def ended(main, told, words):
@@ -125,8 +126,11 @@ def finish(stream, text):
 def why_text(why):
     """A failure in one line. An error of the system that names no file is one of standard output."""
     if isinstance(why, Failure):
-        return str(why)
-    return f"{why.filename or 'standard output'}: {why.strerror or why}"
+        told = str(why)
+    else:
+        told = f"{why.filename or 'standard output'}: {why.strerror or why}"
+    # A file's name may hold the end of a line.
+    return told.replace("\n", "\\n")
 
 
 def fault_text(why):

@@ -1,5 +1,5 @@
 """Texts that are refused: the one source of the tables of docs/FORMATS.md. The kind and the sentence of a row are what the tools' own reader makes
-of its text; tools/check-pages holds the kinds against the program too, and sees that what is to stand in its place is accepted."""
+of its text; tools/check-pages compares the kinds with the program too, and sees that what is to stand in its place is accepted."""
 
 from fabtools import script
 

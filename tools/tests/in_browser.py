@@ -1,4 +1,4 @@
-"""Looks at pages of runs in Chromium without a window, and holds what their DOM has against what the examples say.
+"""Looks at pages of runs in Chromium without a window, and compares what their DOM has with what the examples say.
 
 usage: python3 in_browser.py CHROMIUM     in tools/tests; prints each fault, and nothing where there is none
 """
