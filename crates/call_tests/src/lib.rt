@@ -5,6 +5,7 @@
 //! |---|---|
 //! | `examples` | the bytes of frames, probes and tables |
 //! | `connections` | a message over a pair of a sender and a receiver; a sender at its last number |
+//! | `hosts` | the packet of what a host sends first |
 //! | `installing` | what an installation awaits first |
 //! | `ports` | a buffer that parts from its message, and bytes that don't count up |
 //! | `numbers` | offsets of ports, texts of faults |
@@ -28,6 +29,8 @@ mod connections;
 mod examples;
 #[cfg(test)]
 mod fabrics;
+#[cfg(test)]
+mod hosts;
 #[cfg(test)]
 mod installing;
 #[cfg(test)]

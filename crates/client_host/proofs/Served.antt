@@ -7,11 +7,11 @@ use Rattle.std.proofs.lemmas.List.{map-set, length-append, length-set, get_or-se
 use Rattle.gm_defs.specs.Token.{PortState}
 use Rattle.world_defs.specs.declared.arrival.Arrival.{Arrival}
 use Rattle.world_defs.specs.Hearing.{hear}
-use Rattle.world_defs.specs.Node.{NodeState, port_at, port_count, to_send}
+use Rattle.world_defs.specs.Node.{NodeState, Outgoing, port_at, port_count}
 use Rattle.world_defs.specs.Client.{ClientState, Called}
 use Rattle.port_client.specs.Held.{OpenClient}
 use Rattle.nic_node.specs.Held.{HostNode, in_state}
-use Rattle.nic_node.specs.Sending.{after_first}
+use Rattle.nic_node.specs.Sending.{once_sent}
 use Rattle.nic_node.specs.Ending.{abandoned}
 use Rattle.world_defs.specs.declared.effect.Said.{Said}
 use Rattle.client_host.specs.Held.{ServedHost, client_in, after_call, IsFromHosts}
@@ -189,9 +189,9 @@ packet-served n m cs wire (Ok arrival) s heard host hosts err =
     node-served n m cs s host hosts (subst (NodeTied n.hosts n.state) (ap (λ x. x.1) heard) (hear-tied n.host n.hosts n.state wire))
 packet-served n m cs wire (Err e) s heard host hosts err = subst (λ y. IsServed y cs) (sym err) s
 
--- what was sent counts as sent
-pub sent-served : (n m : HostNode) (cs : List (Option OpenClient)) → IsServed n cs → m ≡ in_state n (after_first n) → IsServed m cs
-sent-served n m cs s e = in-served n m cs (after_first n) s e (once_sent-tied n.hosts n.state (to_send n.host n.state))
+-- something counts as sent
+pub sent-served : (n m : HostNode) (cs : List (Option OpenClient)) (o : Option Outgoing) → IsServed n cs → m ≡ in_state n (once_sent n.state o) → IsServed m cs
+sent-served n m cs o s e = in-served n m cs (once_sent n.state o) s e (once_sent-tied n.hosts n.state o)
 
 -- a call that may run out of memory
 pub call-kept : {A E : Type 0} (r : Result A E) (n m : HostNode) (cs : List (Option OpenClient)) (port i : ℕ) (x q p : Option OpenClient) (call : Called) → IsServed n cs → port < 8 → i ≡ port → x ≡ slice_index_or cs i x

@@ -1,7 +1,7 @@
 //! One host with its clients, and all that is no call of a client.
 
 ghost use Rattle.std.specs.Prelude.{◌≡◌, ◌<◌, ◌≤◌, ℕ, nat_lt, length, replicate, true, is_some, if◌then◌else◌, Some};
-ghost use Rattle.std.specs.Prelude.{None, option_map, IfOk, IfSome, IfNone, OnOk, OnErr};
+ghost use Rattle.std.specs.Prelude.{None, option_map, option_and_then, IfOk, IfSome, IfNone, OnOk, OnErr};
 ghost use Rattle.gm_defs.specs.Body.{is_prio};
 ghost use Rattle.world_defs.specs.Mapping.{is_part};
 ghost use Rattle.world_defs.specs.Table.{active_epoch, revoked_table, has_revoked};
@@ -9,13 +9,13 @@ ghost use Rattle.world_defs.specs.Node.{StagedProbe, StagedPart, port_count, to_
 ghost use Rattle.world_defs.specs.Node.{node_expired, unacknowledged_to, lane_count, lane_of};
 ghost use Rattle.world_defs.specs.Node.{lane_at};
 ghost use Rattle.world_defs.specs.Hearing.{hear};
-ghost use Rattle.nic_node.specs.Sending.{once_sent};
+ghost use Rattle.nic_node.specs.Sending.{chosen, once_sent};
 ghost use Rattle.nic_node.specs.Waiting.{IsNextUnacked};
 ghost use Rattle.client_host.specs.Held.{unused_host, in_state};
 
 use crate::ending::end_clients;
 use net_defs::Walk;
-use nic_node::{Arrival, Message, NicNode, Packet, RoutePart, Table};
+use nic_node::{Arrival, Message, NextSend, NicNode, Packet, RoutePart, Table};
 use port_client::Client;
 use reg_mem::Rooms;
 use std::alloc::{AllocError, Global};
@@ -219,21 +219,39 @@ impl ClientHost {
         self.node.has_to_send()
     }
 
-    /// The packet of what it sends first, injected under a number. None exactly where it has nothing to send, and then
-    /// no memory is asked for. It stays as it is: see [`ClientHost::staged`].
-    pub fn stage(&self, alloc: Global, number: u64) -> Result<Option<Packet>, AllocError>
-        ensures packet { IfOk result (λ packet. packet ≡ option_map (packet_for self.now.host number)
-            (to_send self.now.host self.now.state)) }
-        ensures wanting { OnErr result (is_some (to_send self.now.host self.now.state) ≡ true) }
+    /// What it sends first. None exactly where it has nothing to send.
+    pub fn next_send(&self) -> Option<NextSend>
+        ensures first { option_and_then (chosen self.now.host self.now.state) result
+            ≡ to_send self.now.host self.now.state }
+        ensures there { IfSome result (λ next. is_some (chosen self.now.host self.now.state next) ≡ true) }
     {
-        self.node.stage(alloc, number)
+        self.node.next_send()
     }
 
-    /// What it sends first counts as sent. Nothing changes where it has nothing to send.
-    pub fn staged(&mut self)
-        ensures { self.new ≡ in_state self.old (once_sent self.old.state (to_send self.old.host self.old.state)) }
+    /// A packet becomes the one of something that it has to send, injected under a number, in the buffer that it has.
+    /// The host stays as it is: see [`ClientHost::sent_as`]. Where memory runs out, the packet may be any.
+    pub fn write_packet(
+        &self,
+        alloc: Global,
+        next: NextSend,
+        number: u64,
+        bytes: &mut Vec<u8>,
+        packet: &mut Packet,
+    ) -> Result<(), AllocError>
+        requires { is_some (chosen self.now.host self.now.state next) ≡ true }
+        ensures { OnOk result (Some packet.new ≡ option_map (packet_for self.now.host number)
+            (chosen self.now.host self.now.state next)) }
     {
-        self.node.staged();
+        self.node.write_packet(alloc, next, number, bytes, packet)
+    }
+
+    /// Something that it has to send counts as sent.
+    pub fn sent_as(&mut self, next: NextSend)
+        requires { is_some (chosen self.old.host self.old.state next) ≡ true }
+        ensures { self.new ≡ in_state self.old
+            (once_sent self.old.state (chosen self.old.host self.old.state next)) }
+    {
+        self.node.sent_as(next);
     }
 
     /// Spends the host and all tokens and buffers of its ports, those of open ports too. Takes no memory.

@@ -30,5 +30,5 @@ pub use events::caller;
 pub use gm_defs::TokenPlace;
 pub use host::ClientHost;
 pub use hosts::{end_hosts, new_hosts};
-pub use nic_node::{Arrival, Heard, Message, Packet, RoutePart, Table};
+pub use nic_node::{Arrival, Heard, Message, NextSend, Packet, RoutePart, Table};
 pub use world_defs::Said;

@@ -107,9 +107,5 @@ module _ (w : WorldState) (h c : ℕ) where
       of None e = ap (may_send w c) e ∙ sym (ap (λ (o : Option Outgoing). is_some o && not is_kept) e)
       of (Some out) e = ap (may_send w c) e ∙ ap not (kept-first out e) ∙ sym (ap (λ (o : Option Outgoing). is_some o && not is_kept) e)
 
-  pub free-goes : {X : Type 0} (f : Outgoing → X) (x : X) → is_kept ≡ false → Some x ≡ option_map f (to_send h (node_at w h)) → may_send w c (to_send h (node_at w h)) ≡ true
-  free-goes f x free made = may-first ∙ some-first (to_send h (node_at w h)) made ∙ ap not free
-    where
-      some-first : (o : Option Outgoing) → Some x ≡ option_map f o → (is_some o && not is_kept) ≡ not is_kept
-      some-first None made = cc
-      some-first (Some out) made = refl
+  pub free-goes : is_kept ≡ false → is_some (to_send h (node_at w h)) ≡ true → may_send w c (to_send h (node_at w h)) ≡ true
+  free-goes free some = may-first ∙ ap (λ b. b && not is_kept) some ∙ ap not free

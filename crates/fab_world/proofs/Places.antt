@@ -66,6 +66,10 @@ found {p} {ss} {o} {w} {h} {i} {x} a =
       hosts = ap (λ s. s.hosts) there ∙ own.1 ∙ count-is p ss o w a.is;
     }
 
+-- what holds of the state and the address there holds of the host that was read
+pub as-read : {w : WorldState} {h : ℕ} {x : ServedHost} (P : ℕ → NodeState → Type 0) → IsThere w h x → P h (node_at w h) → P x.host x.state
+as-read {w} {h} {x} P t p = subst (λ n. P x.host n) (sym t.state) (subst (λ k. P k (node_at w h)) (sym t.host) p)
+
 -- the hosts of a world are still hosts where one of them changes, and keeps its address
 pub kept : {p : LinksAndPlan} {ss : List ServedHost} {o : Option Adoption} {w : WorldState} {h i : ℕ} {x : ServedHost} (q : ServedHost) → IsAt p ss o w h i x → q.host ≡ x.host → q.hosts ≡ x.hosts
     → AreHosts (slice_set ss i q)

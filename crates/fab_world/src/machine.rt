@@ -33,6 +33,8 @@ pub(crate) struct Machine {
     pub(crate) hosts: Vec<ClientHost>,
     pub(crate) marks: HostMarks,
     pub(crate) adopted: AdoptedRoutes,
+    // Where the bytes of a message's packet are put together. No contract sees them.
+    pub(crate) bytes: Vec<u8>,
 }
 
 impl Model for Machine {
@@ -62,6 +64,7 @@ impl Machine {
                 hosts,
                 marks,
                 adopted: AdoptedRoutes::new(),
+                bytes: Vec::new(alloc),
             }),
             Err(wanting) => {
                 links.end();
@@ -139,6 +142,7 @@ impl Machine {
             hosts,
             marks: _,
             adopted: _,
+            bytes: _,
         } = self;
         links.end();
         end_hosts(hosts);

@@ -23,6 +23,9 @@ use port_graph::Fabric;
 use std::alloc::{AllocError, Global};
 use std::marker::Model;
 
+// The most packets that are kept for their buffers.
+const MOST_SPARE: usize = 256;
+
 /// The channel holds a packet.
 #[derive(Clone, Copy, Debug, PartialEq, Eq)]
 pub struct Occupied;
@@ -38,6 +41,8 @@ pub struct Links {
     slots: Slots,
     limbo: Limbo,
     next_serial: u64,
+    // Packets that left, whose buffers serve again. No contract sees them.
+    spare: Vec<Packet>,
 }
 
 impl Model for Links {
@@ -65,6 +70,7 @@ impl Links {
             slots,
             limbo: Limbo::new(alloc),
             next_serial: 0,
+            spare: Vec::with_capacity(alloc, MOST_SPARE)?,
         })
     }
 
@@ -154,6 +160,16 @@ impl Links {
         }
         self.slots.put(usize::from(c), Slot::new(p, self.epoch));
         Ok(())
+    }
+
+    /// A packet to write into: one that left, whose buffer serves again, or one without a buffer.
+    pub fn spare(&mut self, alloc: Global) -> Packet
+        ensures { self.new ≡ self.old }
+    {
+        match self.spare.pop() {
+            Some(packet) => packet,
+            None => Packet::unwritten(alloc),
+        }
     }
 
     /// The least serial in limbo that isn't below a number.

@@ -1,6 +1,6 @@
 -- What a host sends first: an item, then what is owed, then what is due.
 use Rattle.std.proofs.Common.{◌≡◌, ℕ, true, false, Option, Some, None, refl, ap, ◌∙◌, arith}
-use Rattle.std.specs.Prelude.{is_some, option_map, Result, Ok, Err, IfOk}
+use Rattle.std.specs.Prelude.{is_some, option_map, Result, Ok, Err, OnOk}
 use Rattle.world_defs.specs.Node.{Staged, StagedReply, StagedAck, NodeState, Outgoing, Reply, PartAnswer, outgoing_staged, either, first_some, lanes_of, owed_on, due_on, to_send}
 use Rattle.host_items.specs.Held.{first_of}
 use Rattle.nic_node.specs.Sending.{items_in}
@@ -42,7 +42,7 @@ pub send-fragment : (host : ℕ) (n : NodeState) (x : Option Outgoing) → is_so
 send-fragment host n x none nothing is =
     is ∙ ap (λ z. either z (first_some (due_on host n) (lanes_of n))) nothing ∙ either-none (first_of (items_in n)) (behind host n) none ∙ in-order host n
 
--- a packet that was made, or memory ran out
-pub made-as : {P E : Type 0} (r : Result P E) (x y : P) → IfOk r (λ p. p ≡ x) → x ≡ y → IfOk r (λ p. p ≡ y)
-made-as (Ok p) x y is e = is ∙ e
-made-as (Err error) x y is e = tt
+-- what follows where memory didn't run out
+pub on-ok : {A E P Q : Type 0} (r : Result A E) → (P → Q) → OnOk r P → OnOk r Q
+on-ok (Ok x) f p = f p
+on-ok (Err error) f p = tt

@@ -33,6 +33,7 @@ mod unacked;
 pub use gm_conn::Message;
 pub use host_items::{Packet, RoutePart};
 pub use host_ports::{NodeBegin, NodeClose, NodeProvide, NotOpen, PortEvent, SendAsk, Wreck};
+pub use next::NextSend;
 pub use node::NicNode;
 pub use refusal::NodeSend;
 pub use route_install::Table;

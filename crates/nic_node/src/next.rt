@@ -11,7 +11,7 @@ use net_defs::Walk;
 
 /// Which of the things that a host has to send goes first.
 #[derive(Clone, Copy, Debug)]
-pub(crate) enum NextSend {
+pub enum NextSend {
     /// The first of the staged items.
     Item,
     /// The acknowledgement that a lane owes.
@@ -21,10 +21,11 @@ pub(crate) enum NextSend {
 }
 
 impl NicNode {
-    /// What is sent first, if anything is.
-    pub(crate) fn next_send(&self) -> Option<NextSend>
-        ensures first { option_and_then (chosen self.now) result ≡ to_send self.now.host self.now.state }
-        ensures there { IfSome result (λ next. is_some (chosen self.now next) ≡ true) }
+    /// What it sends first. None exactly where it has nothing to send.
+    pub fn next_send(&self) -> Option<NextSend>
+        ensures first { option_and_then (chosen self.now.host self.now.state) result
+            ≡ to_send self.now.host self.now.state }
+        ensures there { IfSome result (λ next. is_some (chosen self.now.host self.now.state next) ≡ true) }
     {
         if self.items.has_staged() {
             return Some(NextSend::Item);

@@ -1,15 +1,16 @@
 //! A host puts a packet into its channel.
 
-ghost use Rattle.std.specs.Prelude.{◌≡◌, ◌<◌, ◌+◌, ◌&&◌, not, length, true, Some, option_map, IfOk, OnOk, OnErr};
+ghost use Rattle.std.specs.Prelude.{◌≡◌, ◌<◌, ◌+◌, ◌&&◌, not, length, true, Some, is_some, option_map, IfOk, OnOk, OnErr};
 ghost use Rattle.world_defs.specs.Crossed.{is_new};
 ghost use Rattle.world_defs.specs.Node.{to_send, packet_for, has_staged};
 ghost use Rattle.world_defs.specs.World.{WorldState, node_at, may_send, has_to_send};
 ghost use Rattle.world_defs.specs.Step.{injected, inject_one, planned_strikes};
 ghost use Rattle.faulty_links.specs.Held.{of_world, with_part, can_inject, put_under_next};
+ghost use Rattle.nic_node.specs.Sending.{chosen};
 ghost use Rattle.fab_world.specs.Events.{IsHostOf, IsChannelOf};
 
 use super::Machine;
-use client_host::Packet;
+use client_host::{NextSend, Packet};
 use faulty_links::FaultyLinks;
 use net_defs::{End, Vertex};
 use std::alloc::{AllocError, Global};
@@ -46,11 +47,53 @@ impl Machine {
         if self.is_kept_out(host, c) {
             return Ok(Effect::Idle);
         }
-        let number = self.links.injected() + 1;
-        match self.at(host).stage(alloc, number)? {
-            Some(packet) => self.put(alloc, host, c, packet),
+        match self.at(host).next_send() {
+            Some(next) => self.send(alloc, host, c, next),
             None => Ok(Effect::Idle),
         }
+    }
+
+    // The host sends this first, and its channel can take it.
+    fn send(
+        &mut self,
+        alloc: Global,
+        host: u16,
+        c: u16,
+        next: NextSend,
+    ) -> Result<Effect, AllocError>
+        requires there { IsHostOf self.old host }
+        requires channel { IsChannelOf self.old c }
+        requires free { can_inject (of_world self.old) c ≡ true }
+        requires may { may_send self.old c (to_send host (node_at self.old host)) ≡ true }
+        requires first { chosen host (node_at self.old host) next ≡ to_send host (node_at self.old host) }
+        requires some { is_some (chosen host (node_at self.old host) next) ≡ true }
+        ensures ok { IfOk result (λ x. inject_one self.old host c (to_send host (node_at self.old host))
+            ≡ (x, self.new)) }
+        ensures err { OnErr result (self.new ≡ self.old) }
+    {
+        let number = self.links.injected() + 1;
+        let packet = self.written(alloc, host, next, number)?;
+        self.put(alloc, host, c, next, packet)
+    }
+
+    // The packet of something that the host has to send, injected under a number, in the buffer of one that left.
+    fn written(
+        &mut self,
+        alloc: Global,
+        host: u16,
+        next: NextSend,
+        number: u64,
+    ) -> Result<Packet, AllocError>
+        requires there { IsHostOf self.old host }
+        requires some { is_some (chosen host (node_at self.old host) next) ≡ true }
+        ensures packet { IfOk result (λ packet. Some packet ≡ option_map (packet_for host number)
+            (chosen host (node_at self.old host) next)) }
+        ensures same { self.new ≡ self.old }
+    {
+        let mut packet = self.links.spare(alloc);
+        let at = usize::from(host);
+        self.hosts[at].write_packet(alloc, next, number, &mut self.bytes, &mut packet)?;
+        Ok(packet)
     }
 
     // The channel's cable is new, and the host has messages alone to send, if anything.
@@ -86,19 +129,22 @@ impl Machine {
         self.at(host).has_to_send() && !self.is_kept_out(host, c)
     }
 
-    // The packet of what the host sends first enters its channel, and counts as sent.
+    // The packet of what the host sends first enters its channel, and that counts as sent.
     fn put(
         &mut self,
         alloc: Global,
         host: u16,
         c: u16,
+        next: NextSend,
         packet: Packet,
     ) -> Result<Effect, AllocError>
         requires there { IsHostOf self.old host }
         requires channel { IsChannelOf self.old c }
         requires free { can_inject (of_world self.old) c ≡ true }
         requires may { may_send self.old c (to_send host (node_at self.old host)) ≡ true }
-        requires first { Some packet ≡ option_map (packet_for host (self.old.injected + 1))
+        requires first { chosen host (node_at self.old host) next ≡ to_send host (node_at self.old host) }
+        requires some { is_some (chosen host (node_at self.old host) next) ≡ true }
+        requires packet { Some packet ≡ option_map (packet_for host (self.old.injected + 1))
             (to_send host (node_at self.old host)) }
         ensures ok { IfOk result (λ x. inject_one self.old host c (to_send host (node_at self.old host))
             ≡ (x, self.new)) }
@@ -106,7 +152,7 @@ impl Machine {
     {
         let effect = enter(&mut self.links, alloc, c, packet)?;
         let at = usize::from(host);
-        self.hosts[at].staged();
+        self.hosts[at].sent_as(next);
         self.marks.mark(at);
         Ok(effect)
     }

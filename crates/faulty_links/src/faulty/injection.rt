@@ -35,6 +35,13 @@ impl FaultyLinks {
         self.plan.pull_at(u128::from(self.counts.injected()) + 1)
     }
 
+    /// A packet to write into: one that left, whose buffer serves again, or one without a buffer.
+    pub fn spare(&mut self, alloc: Global) -> Packet
+        ensures { self.new ≡ self.old }
+    {
+        self.links.spare(alloc)
+    }
+
     /// Puts a packet into an empty channel under the next number; the fault that is planned for this injection
     /// strikes at once. Where memory runs out it hands the packet back, and nothing has changed. It stands in its
     /// callers, which need not hand the packet over.

@@ -6,6 +6,7 @@ ghost use Rattle.world_defs.specs.Fault.{lose, reset, repeat, hold, flip, replay
 
 use super::Links;
 use crate::Slot;
+use myri_packet::Packet;
 use std::alloc::{AllocError, Global};
 use world_defs::Replayed;
 
@@ -16,7 +17,10 @@ impl Links {
         ensures lost { result ≡ (lose self.old c).0 }
         ensures links { self.new ≡ (lose self.old c).1 }
     {
-        self.slots.take(usize::from(c)).is_some()
+        let taken = self.slots.take(usize::from(c));
+        let lost = taken.is_some();
+        keep(&mut self.spare, taken);
+        lost
     }
 
     /// Empties a channel as a loss does.
@@ -117,5 +121,14 @@ impl Links {
         self.limbo.push(serial, c, slot)?;
         self.next_serial = serial + 1;
         Ok(serial)
+    }
+}
+
+// Keeps a packet that left for its buffer, while there is room for it.
+fn keep(spare: &mut Vec<Packet>, left: Option<Slot>) {
+    if let Some(slot) = left {
+        if spare.len() < spare.capacity() {
+            spare.push_reserved(slot.into_packet());
+        }
     }
 }

@@ -4,8 +4,9 @@ use Rattle.std.specs.Option.{option_copied}
 use Rattle.world_defs.specs.Node.{NodeState, due_frame, lane_at}
 use Rattle.gm_conn.specs.Lane.{HostLane, head_shown, head_of_frame, ticket_of, due_frame as due_of}
 use Rattle.nic_node.specs.Held.{HostNode, state_of}
+use Rattle.nic_node.proofs.First.{on-ok}
 use Rattle.nic_node.proofs.Going.{due-packet}
-use Rattle.nic_node.proofs.node.NicNode.fragment_packet.Goals as goal
+use Rattle.nic_node.proofs.node.NicNode.write_fragment.Goals as goal
 
 pub due_part-part-requires-clause-head : goal.due_part-part-requires-clause-head
 due_part-part-requires-clause-head c =
@@ -19,7 +20,9 @@ due_part-part-requires-clause-ticket c =
     ap (λ (w : HostNode). ticket_of (lane_at w.state c.args.lane) c.in-Some.frame.head.seq) (sym c.self.view_is)
     ∙ ap (λ (p : HostLane). ticket_of p.state c.in-Some.frame.head.seq) (sym c.at.ensures) ∙ c.in-Some.ensures.ticket
 
-pub returns-in_ok-frame_packet-in-Some-lane_route : goal.returns-in_ok-frame_packet-in-Some-lane_route
-returns-in_ok-frame_packet-in-Some-lane_route c = λ number.
-    due-packet c.args.self.now.host number c.args.self.now.state c.args.lane c.in-Some-lane_route.by.now (c.in-Some.frame.head, c.due_part-part.result.now) c.in_ok-frame_packet-in-Some-lane_route.field-0
-    c.due_part-part.ensures.exact (sym c.lane_route.ensures ∙ ap option_copied c.in-Some-lane_route.is) c.in_ok-frame_packet-in-Some-lane_route.ensures
+pub returns : goal.returns
+returns c = λ number.
+    on-ok c.write_frame.result
+    (due-packet c.args.self.now.host number c.args.self.now.state c.args.lane c.in-Some-lane_route.by.now (c.in-Some.frame.head, c.due_part-part.result.now) c.write_frame.new.packet
+    c.due_part-part.ensures.exact (sym c.lane_route.ensures ∙ ap option_copied c.in-Some-lane_route.is))
+    c.write_frame.ensures
