@@ -9,7 +9,7 @@
 //! ```
 
 ghost use Rattle.std.specs.Prelude.{◌≡◌, ℕ, ◌+◌, ◌*◌, ◌<◌, ◌≤◌, length, slice_index_or, slice_set, None, IfOk};
-ghost use Rattle.std.specs.Prelude.{IfSome, IfNone};
+ghost use Rattle.std.specs.Prelude.{IfSome, IfNone, replicate};
 ghost use Rattle.world_defs.specs.Links.{packet_in};
 ghost use Rattle.number_marks.specs.Marks.{IsWritten, mark_at};
 ghost use Rattle.world_drain.specs.Awake.{AreAwake, AreAwakeBut, AreAwakeOnce, AreAwakeBehind, IsNextAwake};
@@ -21,6 +21,9 @@ use std::alloc::{AllocError, Global};
 
 // How many channels may wait for one. More stay awake.
 const PLACES: u16 = 16;
+
+// A piece of zeros: 1 KiB.
+static ZEROS: [u16; 512] = [0; 512];
 
 /// The channels that are awake, and for each channel those that wait for it.
 #[derive(Drop)]
@@ -36,7 +39,7 @@ impl Awake {
         ensures { IfOk result (λ a. AreAwake w.now.links a.marks.items a.places.items a.counts.items) }
     {
         let channels = usize::from(w.channels());
-        let places = vec![in alloc; 0; 16 * channels]?;
+        let places = bare_places(alloc, 16 * channels)?;
         let counts = vec![in alloc; 0; channels]?;
         let mut marks = bare(alloc, channels)?;
         mark_full(w, &mut marks);
@@ -113,6 +116,27 @@ impl Awake {
         );
         put(&mut self.counts, row, 0);
     }
+}
+
+// So many zeros. They are written piece by piece: a short piece is written by wide stores.
+fn bare_places(alloc: Global, len: usize) -> Result<Vec<u16>, AllocError>
+    requires { len ≤ 1048560 }
+    ensures { IfOk result (λ v. v.items ≡ replicate len 0) }
+{
+    let mut places = Vec::with_capacity(alloc, len)?;
+    'filling: while places.len() < len {
+        let count = (len - places.len()).min(ZEROS.len());
+        places.extend_from_slice(zeros(count))?;
+    }
+    Ok(places)
+}
+
+// So many zeros, at most a piece of them.
+fn zeros(len: usize) -> &'static [u16]
+    requires { len ≤ 512 }
+    ensures { result.now ≡ replicate len 0 }
+{
+    &ZEROS[..len]
 }
 
 // Marks each channel that holds a packet.
