@@ -1,6 +1,6 @@
 -- The ports of a host at a number, as one of them changes.
 use Rattle.std.proofs.Common.{◌≡◌, ◌<◌, ℕ, zero, suc, Bool, true, false, nat_eq, List, [], ◌∷◌, length, Option, Some, None, option_map, refl, sym, ap, subst, ◌∙◌, arith}
-use Rattle.std.specs.Prelude.{slice_index_or, slice_set, replicate, drop, Result, Ok, Err, IfOk, IfSome, OnOk, OnErr}
+use Rattle.std.specs.Prelude.{slice_index_or, slice_set, replicate, drop, Result, Ok, Err, IfOk, IfSome, OnOk}
 use Rattle.std.proofs.Math.ListN.{get_or-map}
 use Rattle.std.proofs.lemmas.Bool.Decides.{nat_tests}
 use Rattle.std.proofs.lemmas.List.{map-set, length-set, get_or-set_same, get_or-set_other}
@@ -127,12 +127,6 @@ same-port : (x : Option OpenPort) → x ≡ changed_port x (λ s. s)
 same-port None = refl
 same-port (Some p) = refl
 
--- the ports stay a host's where a call changes one, or refuses and changes none
-pub kept-either : {A E : Type 0} (r : Result A E) (host : ℕ) (ps : List (Option OpenPort)) (port i : ℕ) (x q : Option OpenPort) (f : PortState → PortState) → IsHostPorts host ps → port < 8 → i ≡ port
-    → x ≡ slice_index_or ps i x → OnOk r (q ≡ changed_port x f) → OnErr r (q ≡ x) → IsHostPorts host (slice_set ps i q)
-kept-either (Ok a) host ps port i x q f kept below at e ok err = kept-changed host ps port i x q f kept below at e ok
-kept-either (Err a) host ps port i x q f kept below at e ok err = kept-changed host ps port i x q (λ s. s) kept below at e (err ∙ same-port x)
-
 -- where no port has a state, none is open
 pub none-open : (ps : List (Option OpenPort)) (n : ℕ) → states ps ≡ replicate n None → (k : ℕ) → slice_index_or ps k None ≡ None
 none-open [] n e k = refl
@@ -154,3 +148,8 @@ open-changed v host ps port i x p q f is kept below at e there new =
 pub kept-open : (host : ℕ) (ps : List (Option OpenPort)) (port i : ℕ) (x : Option OpenPort) (p q : OpenPort) (f : PortState → PortState) → IsHostPorts host ps → port < 8 → i ≡ port
     → x ≡ slice_index_or ps i x → x ≡ Some p → q ≡ port_in p (f p.state) → IsHostPorts host (slice_set ps i (Some q))
 kept-open host ps port i x p q f kept below at e there new = kept-changed host ps port i x (Some q) f kept below at e (ap Some new ∙ ap (λ z. changed_port z f) (sym there))
+
+-- and where the port that was read is put back
+pub kept-same : (host : ℕ) (ps : List (Option OpenPort)) (port i : ℕ) (x q : Option OpenPort) → IsHostPorts host ps → port < 8 → i ≡ port → x ≡ slice_index_or ps i x → q ≡ x
+    → IsHostPorts host (slice_set ps i q)
+kept-same host ps port i x q kept below at e back = kept-changed host ps port i x q (λ s. s) kept below at e (back ∙ same-port x)

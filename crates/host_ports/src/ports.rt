@@ -6,17 +6,17 @@ ghost use Rattle.std.specs.Option.{ForSome};
 ghost use Rattle.net_defs.specs.Refusal.{Refuses};
 ghost use Rattle.gm_defs.specs.Body.{is_head};
 ghost use Rattle.gm_defs.specs.Token.{opened, place_of_send, place_of_recv};
-ghost use Rattle.gm_defs.specs.Port.{sent_with, provided_with, finished, delivered, next_event, polled};
+ghost use Rattle.gm_defs.specs.Port.{sent_with, provided_with, send_of, finished, delivered, next_event, polled};
 ghost use Rattle.gm_tokens.specs.Token.{token_at};
 ghost use Rattle.gm_port.specs.Held.{send_at, receive_at, event_at};
 ghost use Rattle.world_defs.specs.Hearing.{port_takes};
-ghost use Rattle.host_ports.specs.Held.{none_open, open_at, with_open, changed, place_at, unfinished_at};
-ghost use Rattle.host_ports.specs.Refusal.{begin_bar, send_bar, provide_bar, close_bar};
+ghost use Rattle.host_ports.specs.Held.{none_open, open_at, with_open, changed, place_at, unfinished_at, port_in};
+ghost use Rattle.host_ports.specs.Refusal.{begin_bar, send_bar, provide_bar, provide_word, close_bar};
 
 use crate::ask::{NodeBegin, NodeClose, NodeProvide, NotOpen, PortSend};
 use crate::slot;
 use gm_defs::{FrameHead, TokenPlace};
-use gm_port::{Port, PortEvent, SendAsk, Wreck};
+use gm_port::{Port, PortEvent, ProvideRefusal, SendAsk, Wreck};
 use gm_tokens::{RecvToken, SendToken, is_too_long};
 use reg_mem::Reg;
 use std::alloc::{AllocError, Global};
@@ -88,8 +88,11 @@ impl Ports {
     {
         let place = usize::from(port);
         let _ = &self.host;
-        if place < PORTS {
-            slot::finish(&mut self.ports[place], token);
+        if place >= PORTS {
+            return;
+        }
+        if let Some(open) = &mut self.ports[place] {
+            finish_open(open, token);
         }
     }
 
@@ -164,7 +167,13 @@ impl Ports {
         ensures provided { OnOk result (self.new ≡ changed self.old port (λ s.
             provided_with s (record { token = t.number; size = size; prio = prio; filling = None; buffer = b }))) }
     {
-        slot::provide(&mut self.ports[usize::from(port)], t, b, size, prio)
+        match &mut self.ports[usize::from(port)] {
+            Some(open) => match open.provide(t, b, size, prio) {
+                Ok(()) => Ok(()),
+                Err((t, b, refusal)) => Err((t, b, not_provided(refusal))),
+            },
+            None => Err((t, b, NodeProvide::NotOpen)),
+        }
     }
 
     /// A fragment came, and goes into a buffer at its offset: of a token that fits its message and was provided first,
@@ -277,5 +286,31 @@ impl Ports {
             }
         }
         ports.destroy_empty();
+    }
+}
+
+// The message of a token is acknowledged. Nothing changes where the token has no unfinished send.
+fn finish_open(port: &mut Port, token: u16)
+    ensures { port.new ≡ port_in port.old (finished port.old.state token) }
+{
+    if is_unfinished(port, token) {
+        port.finish(usize::from(token));
+    }
+}
+
+// Whether a token has an unfinished send.
+fn is_unfinished(port: &Port, number: u16) -> bool
+    ensures { result ≡ is_some (send_of port.now.state number) }
+{
+    port.place(true, number) == Some(TokenPlace::Queue)
+}
+
+// Why an open port takes no buffer, as the host says it.
+fn not_provided(refusal: ProvideRefusal) -> NodeProvide
+    ensures { result ≡ provide_word refusal }
+{
+    match refusal {
+        ProvideRefusal::BadSize => NodeProvide::BadSize,
+        ProvideRefusal::BufferShort => NodeProvide::BufferShort,
     }
 }

@@ -1,6 +1,6 @@
 use Rattle.std.proofs.Common.{refl}
 use Rattle.host_ports.proofs.Sends.{queue-asked}
-use Rattle.host_ports.proofs.slot.is_unfinished.Goals as goal
+use Rattle.host_ports.proofs.ports.is_unfinished.Goals as goal
 
 pub returns : goal.returns
 returns c =
