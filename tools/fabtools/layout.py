@@ -10,6 +10,8 @@ from bisect import bisect_right, insort
 GAP = 14
 # So far the middle of a host stays from the cables of others.
 CLEAR = 24
+# So far the middle of a switch that springs hold stays from the cables of others.
+BESIDE = 46
 
 
 def between_switches(fabric):
@@ -343,7 +345,35 @@ class Springs(Free):
     """The switches as far from each other in the picture as by cables, as nearly as may be."""
 
     def __init__(self, fabric):
-        super().__init__(fabric, stressed(fabric), 70)
+        super().__init__(fabric, beside_cables(fabric, stressed(fabric)), 70)
+
+
+def beside_cables(fabric, spots):
+    """The places, where each switch has moved off the cables of others: one behind it would look like two that end there."""
+    at = {it: list(spot) for it, spot in spots.items()}
+    cables = sorted({tuple(sorted((a[0], b[0]))) for a, b in between_switches(fabric) if a[0] != b[0]})
+    for _ in range(max(3, min(60, 400_000 // (len(at) * len(cables) + 1)))):
+        moved = False
+        for name, spot in at.items():
+            for one, other in cables:
+                if name not in (one, other) and distance(spot, at[one], at[other]) < BESIDE:
+                    moved |= step_off(spot, at[one], at[other])
+        if not moved:
+            break
+    return {it: tuple(spot) for it, spot in at.items()}
+
+
+def step_off(spot, one, other):
+    """Moves a place away from a straight line between two others, on its side of it; whether it did."""
+    across, down = one[1] - other[1], other[0] - one[0]
+    long = math.hypot(across, down)
+    if not long:
+        return False
+    side = across * (spot[0] - one[0]) + down * (spot[1] - one[1])
+    by = (1 if side >= 0 else -1) * max(1, (BESIDE - abs(side) / long) / 2) / long
+    spot[0] += across * by
+    spot[1] += down * by
+    return True
 
 
 def distances(fabric):
